@@ -1,0 +1,22 @@
+ghost use mathlib.Core.Path.{_≡_};
+ghost use Rattle.store.specs.Reads.{placeOf};
+
+/// Why a read was refused: the first of its places that is not a byte.
+#[derive(Clone, Copy, PartialEq, Eq, Debug)]
+pub enum Lack {
+    /// The store ends before this place.
+    Missing(u64),
+    /// The store has this place, but its byte could not be read.
+    Unread(u64),
+}
+
+impl Lack {
+    /// The place that is not a byte.
+    pub fn place(self) -> u64
+        ensures { λ r. ⌜ r ≡ placeOf self ⌝ }
+    {
+        match self {
+            Lack::Missing(place) | Lack::Unread(place) => place,
+        }
+    }
+}

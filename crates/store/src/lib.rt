@@ -1,0 +1,7 @@
+//! Where a file's bytes come from: a byte, a missing place or an unread place for each number from 0.
+
+mod lack;
+mod store;
+
+pub use lack::Lack;
+pub use store::Store;
