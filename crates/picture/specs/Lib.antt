@@ -1,0 +1,9 @@
+pub mod Limits
+pub mod Refusals
+pub mod Places
+pub mod Images
+pub mod Steps
+pub mod Compose
+pub mod Region
+pub mod Prepare
+pub mod Making

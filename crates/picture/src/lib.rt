@@ -1,0 +1,27 @@
+//! Places, rectangles and the interface of a picture, with the meaning of every step.
+
+mod fault;
+mod limits;
+mod picture;
+mod rect;
+mod rects;
+mod rows;
+mod size;
+mod sizes;
+mod step;
+
+pub use fault::Cause;
+pub use fault::Fault;
+pub use fault::Refusal;
+pub use fault::Refused;
+pub use limits::LIMIT;
+pub use picture::Picture;
+pub use rect::Rect;
+pub use rows::Rows;
+pub use rows::serve;
+pub use size::Size;
+pub use step::Axis;
+pub use step::Ground;
+pub use step::Mask;
+pub use step::Step;
+pub use step::Turn;
