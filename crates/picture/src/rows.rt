@@ -59,7 +59,10 @@ fn fill<R: Rows>(rows: &mut R, rect: Rect, buffer: &mut [u64]) -> Result<(), Fau
     let wide = rect.width as usize;
     for j in 0..rect.height {
         let from = j as usize * wide;
-        rows.row(rect.left, rect.top + j, &mut buffer[from..from + wide])?;
+        match rows.row(rect.left, rect.top + j, &mut buffer[from..from + wide]) {
+            Ok(()) => {}
+            Err(fault) => return Err(fault),
+        }
     }
     Ok(())
 }
