@@ -27,18 +27,18 @@ or-assoc (Some x) y z = refl
 pub first-append : {K : Type 0} (f : ℕ → Place K) (a n : ℕ) → firstFault f (a + n) ≡ orElse (firstFault f a) (firstFault (λ k. f (a + k)) n)
 first-append f a zero = rw add-zero (sym (or-none (firstFault f a)))
 first-append f a (suc n) =
-  rw add-suc (ap (λ x. orElse x (faultOf (f (a + n)))) (first-append f a n) ∙ or-assoc (firstFault f a) (firstFault (λ k. f (a + k)) n) (faultOf (f (a + n))))
+    rw add-suc (ap (λ x. orElse x (faultOf (f (a + n)))) (first-append f a n) ∙ or-assoc (firstFault f a) (firstFault (λ k. f (a + k)) n) (faultOf (f (a + n))))
 
 pub first-stays : {K : Type 0} (f : ℕ → Place K) (a n : ℕ) (e : Fault) → a ≤ n → firstFault f a ≡ Some e → firstFault f n ≡ Some e
 first-stays f a n e l h =
-  let q : a + (n - a) ≡ n = omega arith in
-  ap (firstFault f) (sym q) ∙ first-append f a (n - a) ∙ ap (λ x. orElse x (firstFault (λ k. f (a + k)) (n - a))) h
+    let q : a + (n - a) ≡ n = omega arith in
+    ap (firstFault f) (sym q) ∙ first-append f a (n - a) ∙ ap (λ x. orElse x (firstFault (λ k. f (a + k)) (n - a))) h
 
 -- the same places have the same first fault
 pub first-same : {K : Type 0} (f g : ℕ → Place K) (n : ℕ) → ((k : ℕ) → k < n → f k ≡ g k) → firstFault f n ≡ firstFault g n
 first-same f g zero h = refl
 first-same f g (suc n) h =
-  ap (λ x. orElse x (faultOf (f n))) (first-same f g n (λ k l. h k (omega arith))) ∙ ap (λ x. orElse (firstFault g n) (faultOf x)) (h n (omega arith))
+    ap (λ x. orElse x (faultOf (f n))) (first-same f g n (λ k l. h k (omega arith))) ∙ ap (λ x. orElse (firstFault g n) (faultOf x)) (h n (omega arith))
 
 -- a row of the same picture
 pub first-moved : {K : Type 0} (i j : Image K) (left row n m : ℕ) (x : Result Unit Fault) → x ≡ firstIn (lined j left row) n → i ≡ j → n ≡ m → x ≡ firstIn (lined i left row) m
@@ -61,4 +61,4 @@ module _ {K S : Type 0} (o : Ops K S) where
   pub shown-clean : (f : ℕ → Place K) (n : ℕ) (codes : List ℕ) → Shown o f n codes → firstFault f n ≡ None
   shown-clean f zero codes s = refl
   shown-clean f (suc n) codes s =
-    ap (λ x. orElse x (faultOf (f n))) (shown-clean f n codes (λ k h. s k (omega arith))) ∙ coded-clean (f n) (getD codes n 0) (s n (omega arith))
+      ap (λ x. orElse x (faultOf (f n))) (shown-clean f n codes (λ k h. s k (omega arith))) ∙ coded-clean (f n) (getD codes n 0) (s n (omega arith))

@@ -38,7 +38,7 @@ module _ {K S : Type 0} (o : Ops K S) where
   taken maxval at white = pixel (o .white maxval)
   taken maxval at (copied x y) = at x y
   taken maxval at (mixed n tap scale offset) =
-    unless (firstFault (tapped at tap) n) (o .finish (summed (λ k. pixelOr (o .black) (tapped at tap k)) (λ k. tap k .weight) n) scale offset maxval)
+      unless (firstFault (tapped at tap) n) (o .finish (summed (λ k. pixelOr (o .black) (tapped at tap k)) (λ k. tap k .weight) n) scale offset maxval)
 
   -- one step over a picture
   abbrev pub stepped : Step → Image K → Image K
@@ -46,7 +46,8 @@ module _ {K S : Type 0} (o : Ops K S) where
     width = widthOf s (i .width) (i .height);
     height = heightOf s (i .width) (i .height);
     maxval = i .maxval;
-    at = λ u v. taken (i .maxval) (i .at) (formula s (i .width) (i .height) u v) }
+    at = λ u v. taken (i .maxval) (i .at) (formula s (i .width) (i .height) u v);
+  }
 
   -- the last step stands first in the list
   abbrev pub composed : List Step → Image K → Image K

@@ -44,25 +44,28 @@ pub record Kernel : Type 0 where
 abbrev pub kernel : Mask → Kernel
 kernel Blur = record {
   coefficients =
-    pos 1 ∷ (pos 1 ∷ (pos 1 ∷
-    (pos 1 ∷ (pos 1 ∷ (pos 1 ∷
-    (pos 1 ∷ (pos 1 ∷ (pos 1 ∷ []))))))));
+      pos 1 ∷ (pos 1 ∷ (pos 1 ∷
+      (pos 1 ∷ (pos 1 ∷ (pos 1 ∷
+      (pos 1 ∷ (pos 1 ∷ (pos 1 ∷ []))))))));
   scale = 9;
-  offset = pos 0 }
+  offset = pos 0;
+}
 kernel Sharpen = record {
   coefficients =
-    negsuc 0 ∷ (negsuc 0 ∷ (negsuc 0 ∷
-    (negsuc 0 ∷ (pos 16 ∷ (negsuc 0 ∷
-    (negsuc 0 ∷ (negsuc 0 ∷ (negsuc 0 ∷ []))))))));
+      negsuc 0 ∷ (negsuc 0 ∷ (negsuc 0 ∷
+      (negsuc 0 ∷ (pos 16 ∷ (negsuc 0 ∷
+      (negsuc 0 ∷ (negsuc 0 ∷ (negsuc 0 ∷ []))))))));
   scale = 8;
-  offset = pos 0 }
+  offset = pos 0;
+}
 kernel Relief = record {
   coefficients =
-    negsuc 0 ∷ (pos 0 ∷ (pos 0 ∷
-    (pos 0 ∷ (pos 0 ∷ (pos 0 ∷
-    (pos 0 ∷ (pos 0 ∷ (pos 1 ∷ []))))))));
+      negsuc 0 ∷ (pos 0 ∷ (pos 0 ∷
+      (pos 0 ∷ (pos 0 ∷ (pos 0 ∷
+      (pos 0 ∷ (pos 0 ∷ (pos 1 ∷ []))))))));
   scale = 2;
-  offset = pos 128 }
+  offset = pos 128;
+}
 
 -- an embedding that names no ground has this one
 abbrev pub groundOf : Option Ground → Ground

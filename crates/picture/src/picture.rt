@@ -15,6 +15,7 @@ pub trait Picture {
 
     // what it shows, its steps and its source's picture
     ghost model: { Self → Model Self·Pixel };
+
     ghost count: { Self → ℕ };
     // its condition: true when new, kept by every call, and its calls' only premise
     ghost sound: { Self → Type 0 };

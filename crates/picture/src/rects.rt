@@ -11,10 +11,21 @@ impl Rect {
     pub fn new(left: u32, top: u32, width: u32, height: u32) -> Result<Rect, Refusal>
         ensures { λ r. ⌜ RectMade left top width height r ⌝ }
     {
-        if width < 1 || height < 1 || width > LIMIT || height > LIMIT || left > LIMIT - width || top > LIMIT - height {
+        if width < 1
+            || height < 1
+            || width > LIMIT
+            || height > LIMIT
+            || left > LIMIT - width
+            || top > LIMIT - height
+        {
             return Err(Refusal::NotInside);
         }
-        Ok(Rect { left, top, width, height })
+        Ok(Rect {
+            left,
+            top,
+            width,
+            height,
+        })
     }
 
     /// How many places it has.

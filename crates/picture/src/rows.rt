@@ -17,12 +17,15 @@ pub trait Rows {
     type Pixel: Kind;
 
     ghost view: { Self → Image Self·Pixel };
+
     ghost ready: { Self → Type 0 };
     // the second differs from the first only in what asking for rows may change
     ghost same: { Self → Self → Type 0 };
 
     law stays: { (p : Self) → same p p };
+
     law follows: { (p q r : Self) → same p q → same q r → same p r };
+
     law shows: { (p q : Self) → same p q → view p ≡ view q };
 
     /// Fills `out` with the codes of a row from column `left` on, or tells the first hole's fault.
@@ -68,7 +71,13 @@ fn fill<R: Rows>(rows: &mut R, rect: Rect, buffer: &mut [u64]) -> Result<(), Fau
 }
 
 /// The whole of a prepare, given the sides of what is shown.
-pub fn serve<R: Rows>(rows: &mut R, wide: u32, high: u32, rect: Rect, buffer: &mut [u64]) -> Result<(), Refusal>
+pub fn serve<R: Rows>(
+    rows: &mut R,
+    wide: u32,
+    high: u32,
+    rect: Rect,
+    buffer: &mut [u64],
+) -> Result<(), Refusal>
     requires ready { ⌜ R·Rows .ready (now rows) ⌝ }
     requires wide { ⌜ wide ≡ R·Rows .view (now rows) .width ⌝ }
     requires high { ⌜ high ≡ R·Rows .view (now rows) .height ⌝ }

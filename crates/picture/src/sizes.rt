@@ -10,9 +10,19 @@ impl Size {
     pub fn new(width: u32, height: u32, maxval: u32) -> Result<Size, Refusal>
         ensures { λ r. ⌜ SizeMade width height maxval r ⌝ }
     {
-        if width < 1 || width > LIMIT || height < 1 || height > LIMIT || maxval < 1 || maxval > 65_535 {
+        if width < 1
+            || width > LIMIT
+            || height < 1
+            || height > LIMIT
+            || maxval < 1
+            || maxval > 65_535
+        {
             return Err(Refusal::OutsideLimits);
         }
-        Ok(Size { width, height, maxval: maxval as u16 })
+        Ok(Size {
+            width,
+            height,
+            maxval: maxval as u16,
+        })
     }
 }

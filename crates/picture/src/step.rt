@@ -32,10 +32,24 @@ pub enum Mask {
 #[derive(Clone, Copy, PartialEq, Eq, Debug)]
 pub enum Step {
     Same,
-    Crop { left: u32, top: u32, width: u32, height: u32 },
-    Embed { x: i32, y: i32, width: u32, height: u32, ground: Option<Ground> },
+    Crop {
+        left: u32,
+        top: u32,
+        width: u32,
+        height: u32,
+    },
+    Embed {
+        x: i32,
+        y: i32,
+        width: u32,
+        height: u32,
+        ground: Option<Ground>,
+    },
     Flip(Axis),
     Rot(Turn),
-    Shrink { across: u32, down: u32 },
+    Shrink {
+        across: u32,
+        down: u32,
+    },
     Conv(Mask),
 }

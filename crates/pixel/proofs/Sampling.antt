@@ -36,16 +36,16 @@ blue-same r g b c x y z z′ e = subst (λ (w : ℕ). (k : w ≤ 65535) → mixe
 
 pub colour-same : (p q : Colour) → p .red ≡ q .red → p .green ≡ q .green → p .blue ≡ q .blue → p ≡ q
 colour-same p q e f g =
-  red-same (p .red) (q .red) (p .green) (p .blue) (p .reds) (q .reds) (p .greens) (p .blues) e
-  ∙ green-same (q .red) (p .green) (q .green) (p .blue) (q .reds) (p .greens) (q .greens) (p .blues) f
-  ∙ blue-same (q .red) (q .green) (p .blue) (q .blue) (q .reds) (q .greens) (p .blues) (q .blues) g
+    red-same (p .red) (q .red) (p .green) (p .blue) (p .reds) (q .reds) (p .greens) (p .blues) e
+    ∙ green-same (q .red) (p .green) (q .green) (p .blue) (q .reds) (p .greens) (q .greens) (p .blues) f
+    ∙ blue-same (q .red) (q .green) (p .blue) (q .blue) (q .reds) (q .greens) (p .blues) (q .blues) g
 
 -- a code reads back, and only as itself
 pub grey-decodes : (p : Grey) → grey .decode (grey .code p) ≡ Some p
 grey-decodes p =
-  let h : p .value ≤ 65535 = p .fits in
-  cond-true (ltb (p .value) 65536) (Some (shade (p .value))) None (lt-ltb (p .value) 65536 (omega arith))
-  ∙ ap Some (grey-same (shade (p .value)) p (omega arith))
+    let h : p .value ≤ 65535 = p .fits in
+    cond-true (ltb (p .value) 65536) (Some (shade (p .value))) None (lt-ltb (p .value) 65536 (omega arith))
+    ∙ ap Some (grey-same (shade (p .value)) p (omega arith))
 
 colour-below : (r g b : ℕ) → r ≤ 65535 → g ≤ 65535 → b ≤ 65535 → r * 2 ^ 32 + g * 2 ^ 16 + b < 2 ^ 48
 colour-below r g b x y z = omega arith
@@ -61,31 +61,31 @@ blue-back r g b x y z = omega arith
 
 pub colour-decodes : (p : Colour) → colour .decode (colour .code p) ≡ Some p
 colour-decodes p =
-  let c = p .red * 2 ^ 32 + p .green * 2 ^ 16 + p .blue in
-  cond-true (ltb c (2 ^ 48)) (Some (rgb (c / 2 ^ 32) (c / 2 ^ 16 % 2 ^ 16) (c % 2 ^ 16))) None
+    let c = p .red * 2 ^ 32 + p .green * 2 ^ 16 + p .blue in
+    cond-true (ltb c (2 ^ 48)) (Some (rgb (c / 2 ^ 32) (c / 2 ^ 16 % 2 ^ 16) (c % 2 ^ 16))) None
     (lt-ltb c (2 ^ 48) (colour-below (p .red) (p .green) (p .blue) (p .reds) (p .greens) (p .blues)))
-  ∙ ap Some (colour-same (rgb (c / 2 ^ 32) (c / 2 ^ 16 % 2 ^ 16) (c % 2 ^ 16)) p
+    ∙ ap Some (colour-same (rgb (c / 2 ^ 32) (c / 2 ^ 16 % 2 ^ 16) (c % 2 ^ 16)) p
     (red-back (p .red) (p .green) (p .blue) (p .reds) (p .greens) (p .blues))
     (green-back (p .red) (p .green) (p .blue) (p .reds) (p .greens) (p .blues))
     (blue-back (p .red) (p .green) (p .blue) (p .reds) (p .greens) (p .blues)))
 
 pub grey-recodes : (c : ℕ) (p : Grey) → grey .decode c ≡ Some p → p .value ≡ c
 grey-recodes c p e =
-  let d : c ≤ 65535 = grind (arith, tells) in
-  let f : Some (shade c) ≡ Some p = sym (cond-true (ltb c 65536) (Some (shade c)) None (lt-ltb c 65536 (omega arith))) ∙ e in
-  let g : shade c ≡ p = cc in
-  ap (λ q. q .value) (sym g) ∙ omega arith
+    let d : c ≤ 65535 = grind (arith, tells) in
+    let f : Some (shade c) ≡ Some p = sym (cond-true (ltb c 65536) (Some (shade c)) None (lt-ltb c 65536 (omega arith))) ∙ e in
+    let g : shade c ≡ p = cc in
+    ap (λ q. q .value) (sym g) ∙ omega arith
 
 parts : (c : ℕ) → c < 2 ^ 48 → min (c / 2 ^ 32) 65535 * 2 ^ 32 + min (c / 2 ^ 16 % 2 ^ 16) 65535 * 2 ^ 16 + min (c % 2 ^ 16) 65535 ≡ c
 parts c h = omega arith
 
 pub colour-recodes : (c : ℕ) (p : Colour) → colour .decode c ≡ Some p → colour .code p ≡ c
 colour-recodes c p e =
-  let d : c < 2 ^ 48 = grind (arith, tells) in
-  let q = rgb (c / 2 ^ 32) (c / 2 ^ 16 % 2 ^ 16) (c % 2 ^ 16) in
-  let f : Some q ≡ Some p = sym (cond-true (ltb c (2 ^ 48)) (Some q) None (lt-ltb c (2 ^ 48) d)) ∙ e in
-  let g : q ≡ p = cc in
-  ap (λ x. colour .code x) (sym g) ∙ parts c d
+    let d : c < 2 ^ 48 = grind (arith, tells) in
+    let q = rgb (c / 2 ^ 32) (c / 2 ^ 16 % 2 ^ 16) (c % 2 ^ 16) in
+    let f : Some q ≡ Some p = sym (cond-true (ltb c (2 ^ 48)) (Some q) None (lt-ltb c (2 ^ 48) d)) ∙ e in
+    let g : q ≡ p = cc in
+    ap (λ x. colour .code x) (sym g) ∙ parts c d
 
 -- samples
 pub grey-sampled : (xs : List ℕ) → length xs ≡ 1 → Under 65535 xs → grey .samples (grey .pixel xs) ≡ xs
@@ -98,10 +98,10 @@ colour-sampled [] l u = absurd (omega arith)
 colour-sampled (x ∷ []) l u = absurd (omega arith)
 colour-sampled (x ∷ y ∷ []) l u = absurd (omega arith)
 colour-sampled (x ∷ y ∷ z ∷ []) l u =
-  let a : min x 65535 ≡ x = let h : x ≤ 65535 = u 0 in omega arith in
-  let b : min y 65535 ≡ y = let h : y ≤ 65535 = u 1 in omega arith in
-  let c : min z 65535 ≡ z = let h : z ≤ 65535 = u 2 in omega arith in
-  rw (a, b, c)
+    let a : min x 65535 ≡ x = let h : x ≤ 65535 = u 0 in omega arith in
+    let b : min y 65535 ≡ y = let h : y ≤ 65535 = u 1 in omega arith in
+    let c : min z 65535 ≡ z = let h : z ≤ 65535 = u 2 in omega arith in
+    rw (a, b, c)
 colour-sampled (x ∷ y ∷ z ∷ w ∷ ws) l u = absurd (omega arith)
 
 pub under-one : (m x : ℕ) → x ≤ m → Under m (x ∷ [])

@@ -48,13 +48,13 @@ kept s z fs h k = omega (arith, ints)
 
 -- what the machine adds is the sum of the numbers
 pub added : (s w : ℤ) (v : ℕ) → SFits w64 s → SFits w32 w → natAbs s ≤ 2 ^ 40 → natAbs w ≤ 256 → v < 65536
-  → toZ w64 (ofZ w64 (toZ w64 (ofZ w64 s) +ℤ toZ w64 (ofZ w64 (toZ w64 (ofZ w64 (toZ w32 (ofZ w32 w))) *ℤ toZ w64 v)))) ≡ s +ℤ w *ℤ pos v
+    → toZ w64 (ofZ w64 (toZ w64 (ofZ w64 s) +ℤ toZ w64 (ofZ w64 (toZ w64 (ofZ w64 (toZ w32 (ofZ w32 w))) *ℤ toZ w64 v)))) ≡ s +ℤ w *ℤ pos v
 added s w v fs fw small light fv =
-  let a : toZ w64 (ofZ w64 (toZ w32 (ofZ w32 w))) ≡ w = omega (arith, ints) in
-  let b : toZ w64 v ≡ pos v = omega (arith, ints) in
-  let p : toZ w64 (ofZ w64 (toZ w32 (ofZ w32 w))) *ℤ toZ w64 v ≡ w *ℤ pos v = ap (λ z. z *ℤ toZ w64 v) a ∙ ap (λ z. w *ℤ z) b in
-  ap (λ z. toZ w64 (ofZ w64 (toZ w64 (ofZ w64 s) +ℤ toZ w64 (ofZ w64 z)))) p
-  ∙ kept s (w *ℤ pos v) fs small (product-small w v light (omega arith))
+    let a : toZ w64 (ofZ w64 (toZ w32 (ofZ w32 w))) ≡ w = omega (arith, ints) in
+    let b : toZ w64 v ≡ pos v = omega (arith, ints) in
+    let p : toZ w64 (ofZ w64 (toZ w32 (ofZ w32 w))) *ℤ toZ w64 v ≡ w *ℤ pos v = ap (λ z. z *ℤ toZ w64 v) a ∙ ap (λ z. w *ℤ z) b in
+    ap (λ z. toZ w64 (ofZ w64 (toZ w64 (ofZ w64 s) +ℤ toZ w64 (ofZ w64 z)))) p
+    ∙ kept s (w *ℤ pos v) fs small (product-small w v light (omega arith))
 
 -- what the machine divides and limits is the sample that the sum comes to
 divided : (a : ℤ) (s : ℕ) → divEuclid a (pos s) ≡ floorDiv a s
@@ -70,23 +70,23 @@ clamped (pos a) m = grind (arith, tells)
 clamped (negsuc a) m = grind (arith, tells)
 
 pub scaled-is : (sum : ℤ) (s : ℕ) (o : ℤ) (m : ℕ) (q r : ℤ) → SFits w64 sum → natAbs sum ≤ 2 ^ 40 → s < 2 ^ 32 → SFits w32 o → m < 65536
-  → q ≡ divEuclid (toZ w64 (ofZ w64 (toZ w64 (ofZ w64 sum) +ℤ toZ w64 (s / 2)))) (toZ w64 s)
-  → r ≡ maxZ (pos 0) (minZ (toZ w64 (ofZ w64 (toZ w64 (ofZ w64 q) +ℤ toZ w64 (ofZ w64 (toZ w32 (ofZ w32 o)))))) (toZ w64 m))
-  → natAbs r ≡ finished sum s o m
+    → q ≡ divEuclid (toZ w64 (ofZ w64 (toZ w64 (ofZ w64 sum) +ℤ toZ w64 (s / 2)))) (toZ w64 s)
+    → r ≡ maxZ (pos 0) (minZ (toZ w64 (ofZ w64 (toZ w64 (ofZ w64 q) +ℤ toZ w64 (ofZ w64 (toZ w32 (ofZ w32 o)))))) (toZ w64 m))
+    → natAbs r ≡ finished sum s o m
 scaled-is sum s o m q r fs small fk fo fm qe re =
-  let a : toZ w64 (ofZ w64 (toZ w64 (ofZ w64 sum) +ℤ toZ w64 (s / 2))) ≡ sum +ℤ pos (s / 2) = omega (arith, ints) in
-  let b : toZ w64 s ≡ pos s = omega (arith, ints) in
-  let d : q ≡ floorDiv (sum +ℤ pos (s / 2)) s = qe ∙ ap (λ z. divEuclid z (toZ w64 s)) a ∙ ap (divEuclid (sum +ℤ pos (s / 2))) b ∙ divided (sum +ℤ pos (s / 2)) s in
-  let n : natAbs (sum +ℤ pos (s / 2)) ≤ 2 ^ 41 = omega (arith, ints) in
-  let k : natAbs q ≤ 2 ^ 42 = omega (arith, ap natAbs d, quotient-small (sum +ℤ pos (s / 2)) s) in
-  let e : toZ w64 (ofZ w64 (toZ w64 (ofZ w64 q) +ℤ toZ w64 (ofZ w64 (toZ w32 (ofZ w32 o))))) ≡ q +ℤ o = omega (arith, ints) in
-  let f : toZ w64 m ≡ pos m = omega (arith, ints) in
-  ap natAbs (re ∙ ap (λ z. maxZ (pos 0) (minZ z (toZ w64 m))) e ∙ ap (λ z. maxZ (pos 0) (minZ (q +ℤ o) z)) f)
-  ∙ clamped (q +ℤ o) m ∙ ap (λ z. limited (z +ℤ o) m) d
+    let a : toZ w64 (ofZ w64 (toZ w64 (ofZ w64 sum) +ℤ toZ w64 (s / 2))) ≡ sum +ℤ pos (s / 2) = omega (arith, ints) in
+    let b : toZ w64 s ≡ pos s = omega (arith, ints) in
+    let d : q ≡ floorDiv (sum +ℤ pos (s / 2)) s = qe ∙ ap (λ z. divEuclid z (toZ w64 s)) a ∙ ap (divEuclid (sum +ℤ pos (s / 2))) b ∙ divided (sum +ℤ pos (s / 2)) s in
+    let n : natAbs (sum +ℤ pos (s / 2)) ≤ 2 ^ 41 = omega (arith, ints) in
+    let k : natAbs q ≤ 2 ^ 42 = omega (arith, ap natAbs d, quotient-small (sum +ℤ pos (s / 2)) s) in
+    let e : toZ w64 (ofZ w64 (toZ w64 (ofZ w64 q) +ℤ toZ w64 (ofZ w64 (toZ w32 (ofZ w32 o))))) ≡ q +ℤ o = omega (arith, ints) in
+    let f : toZ w64 m ≡ pos m = omega (arith, ints) in
+    ap natAbs (re ∙ ap (λ z. maxZ (pos 0) (minZ z (toZ w64 m))) e ∙ ap (λ z. maxZ (pos 0) (minZ (q +ℤ o) z)) f)
+    ∙ clamped (q +ℤ o) m ∙ ap (λ z. limited (z +ℤ o) m) d
 
 -- a sample that is made is one that a pixel holds as it is
 pub shown : (sum : ℤ) (s : ℕ) (o : ℤ) (m r : ℕ) → SFits w64 sum → SFits w32 o → m < 65536
-  → r ≡ finished (toZ w64 (ofZ w64 sum)) s (toZ w32 (ofZ w32 o)) m → r ≡ min (finished sum s o m) 65535
+    → r ≡ finished (toZ w64 (ofZ w64 sum)) s (toZ w32 (ofZ w32 o)) m → r ≡ min (finished sum s o m) 65535
 shown sum s o m r fs fo fm e =
-  let a : r ≡ finished sum s o m = e ∙ ap (λ z. finished z s (toZ w32 (ofZ w32 o)) m) (toZ-ofZ fs) ∙ ap (λ z. finished sum s z m) (toZ-ofZ fo) in
-  omega (arith, finished-under sum s o m)
+    let a : r ≡ finished sum s o m = e ∙ ap (λ z. finished z s (toZ w32 (ofZ w32 o)) m) (toZ-ofZ fs) ∙ ap (λ z. finished sum s z m) (toZ-ofZ fo) in
+    omega (arith, finished-under sum s o m)

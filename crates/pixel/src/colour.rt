@@ -19,6 +19,7 @@ pub impl Kind for Colour as ColourKind {
     type Sum = ColourSum;
 
     ghost ops = { colour };
+
     ghost held = { λ s n. (natAbs (s .red) ≤ n * (256 * 65535)) × (natAbs (s .green) ≤ n * (256 * 65535)) × (natAbs (s .blue) ≤ n * (256 * 65535)) };
 
     fn mark() -> u8 {
@@ -44,22 +45,38 @@ pub impl Kind for Colour as ColourKind {
 
     fn decode(code: u64) -> Option<Colour> {
         if code < 0x1_0000_0000_0000 {
-            Some(Colour { red: (code / 0x1_0000_0000) as u16, green: (code / 0x1_0000 % 0x1_0000) as u16, blue: (code % 0x1_0000) as u16 })
+            Some(Colour {
+                red: (code / 0x1_0000_0000) as u16,
+                green: (code / 0x1_0000 % 0x1_0000) as u16,
+                blue: (code % 0x1_0000) as u16,
+            })
         } else {
             None
         }
     }
 
     fn black() -> Colour {
-        Colour { red: 0, green: 0, blue: 0 }
+        Colour {
+            red: 0,
+            green: 0,
+            blue: 0,
+        }
     }
 
     fn white(maxval: u16) -> Colour {
-        Colour { red: maxval, green: maxval, blue: maxval }
+        Colour {
+            red: maxval,
+            green: maxval,
+            blue: maxval,
+        }
     }
 
     fn empty() -> ColourSum {
-        ColourSum { red: 0, green: 0, blue: 0 }
+        ColourSum {
+            red: 0,
+            green: 0,
+            blue: 0,
+        }
     }
 
     fn more(sum: ColourSum, pixel: Colour, weight: i32) -> ColourSum {

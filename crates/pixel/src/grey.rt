@@ -11,6 +11,7 @@ pub impl Kind for Grey as GreyKind {
     type Sum = i64;
 
     ghost ops = { grey };
+
     ghost held = { λ s n. natAbs s ≤ n * (256 * 65535) };
 
     fn mark() -> u8 {
@@ -54,6 +55,8 @@ pub impl Kind for Grey as GreyKind {
     }
 
     fn finish(sum: i64, scale: u32, offset: i32, maxval: u16) -> Grey {
-        Grey { value: scaled(sum, scale, offset, maxval) }
+        Grey {
+            value: scaled(sum, scale, offset, maxval),
+        }
     }
 }

@@ -17,20 +17,29 @@ pub trait Kind: Copy {
 
     // a pixel's code reads back as that pixel, and no other code does
     law decodes: { (p : Self) → ops .decode (ops .code p) ≡ Some p };
+
     law recodes: { (c : ℕ) (p : Self) → ops .decode c ≡ Some p → ops .code p ≡ c };
     // the code has the samples as its digits
     law coded: { (p : Self) → ops .code p ≡ joined (ops .samples p) };
+
     law few: { (1 ≤ ops .depth) × (ops .depth ≤ 3) };
+
     law deep: { (p : Self) → length (ops .samples p) ≡ ops .depth };
+
     law sampled: { (xs : List ℕ) → length xs ≡ ops .depth → Under 65535 xs → ops .samples (ops .pixel xs) ≡ xs };
+
     law fits: { (p : Self) → Under 65535 (ops .samples p) };
     // two weighted pixels added in either order give the same sum
     law commutes: { (s : Self·Sum) (p q : Self) (a b : ℤ) → ops .more (ops .more s p a) q b ≡ ops .more (ops .more s q b) p a };
+
     law begun: { held (ops .empty) 0 };
+
     law grown: { (s : Self·Sum) (p : Self) (w : ℤ) (n : ℕ) → held s n → natAbs w ≤ 256 → held (ops .more s p w) (n + 1) };
     // what is made for a maxval has no sample above it
     law blacks: { (m : ℕ) → Under m (ops .samples (ops .black)) };
+
     law whites: { (m : ℕ) → Under m (ops .samples (ops .white m)) };
+
     law limits: { (s : Self·Sum) (k : ℕ) (o : ℤ) (m : ℕ) → Under m (ops .samples (ops .finish s k o m)) };
 
     /// The second byte of this kind's files, behind `P`.

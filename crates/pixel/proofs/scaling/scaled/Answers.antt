@@ -9,7 +9,7 @@ use Rattle.pixel.proofs.scaling.scaled.Needs as need
 
 pub returns : need.returns
 returns c =
-  let f : SFits w64 (c .clamp .result) = search needs in
-  ap natAbs (toZ-ofZ f)
-  ∙ scaled-is (c .args .sum) (c .args .scale) (c .args .offset) (c .args .maxval) (c .div-euclid .result) (c .clamp .result)
+    let f : SFits w64 (c .clamp .result) = search needs in
+    ap natAbs (toZ-ofZ f)
+    ∙ scaled-is (c .args .sum) (c .args .scale) (c .args .offset) (c .args .maxval) (c .div-euclid .result) (c .clamp .result)
     (c .fits .sum) (c .pre .small) (c .fits .scale .fits) (c .fits .offset) (c .fits .maxval .fits) (c .div-euclid .ensures) (c .clamp .ensures .value)

@@ -28,16 +28,17 @@ fits-law p = under-three 65535 (p .red) (p .green) (p .blue) (p .reds) (p .green
 
 pub commutes-law : need.commutes-law
 commutes-law s p q a b =
-  same _ _ _ _ _ _
+    same _ _ _ _ _ _
     (swapped (s .red) (a *ℤ pos (p .red)) (b *ℤ pos (q .red)))
     (swapped (s .green) (a *ℤ pos (p .green)) (b *ℤ pos (q .green)))
     (swapped (s .blue) (a *ℤ pos (p .blue)) (b *ℤ pos (q .blue)))
 
 pub grown-law : need.grown-law
-grown-law s p w n h l =
-  ( sum-grown (s .red) w (p .red) n (h .0) l (p .reds)
-  , sum-grown (s .green) w (p .green) n (h .1) l (p .greens)
-  , sum-grown (s .blue) w (p .blue) n (h .2) l (p .blues) )
+grown-law s p w n h l = (
+  sum-grown (s .red) w (p .red) n (h .0) l (p .reds),
+  sum-grown (s .green) w (p .green) n (h .1) l (p .greens),
+  sum-grown (s .blue) w (p .blue) n (h .2) l (p .blues),
+)
 
 pub whites-law : need.whites-law
 whites-law m = under-three m _ _ _ (omega arith) (omega arith) (omega arith)

@@ -7,4 +7,4 @@ use Rattle.pixel.proofs.grey.GreyKind.decode.Needs as need
 
 pub returns-then-code-lt65536 : need.returns-then-code-lt65536
 returns-then-code-lt65536 c =
-  ap Some (grey-same _ _ (search needs)) ∙ sym (cond-true _ _ _ (lt-ltb (c .args .code) 65536 (c .if-code-lt65536 .taken)))
+    ap Some (grey-same _ _ (search needs)) ∙ sym (cond-true _ _ _ (lt-ltb (c .args .code) 65536 (c .if-code-lt65536 .taken)))

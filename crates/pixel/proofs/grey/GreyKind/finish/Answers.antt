@@ -7,4 +7,4 @@ use Rattle.pixel.proofs.grey.GreyKind.finish.Needs as need
 
 pub returns : need.returns
 returns c =
-  grey-same _ _ (shown (c .args .sum) (c .args .scale) (c .args .offset) (c .args .maxval) (c .scaled .result) (c .fits .sum) (c .fits .offset) (c .fits .maxval .fits) (c .scaled .ensures))
+    grey-same _ _ (shown (c .args .sum) (c .args .scale) (c .args .offset) (c .args .maxval) (c .scaled .result) (c .fits .sum) (c .fits .offset) (c .fits .maxval .fits) (c .scaled .ensures))
