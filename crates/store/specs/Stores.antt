@@ -1,0 +1,25 @@
+-- What stands at each place of the kinds of store.
+use mathlib.Core.List.{List, [], _∷_}
+use mathlib.Core.Bool.{Bool, false, cond, _||_}
+use Prim.Native.Nat.{ℕ, _-_, _/_}
+use lib.Dec.{ltb, eqb}
+use lib.ListN.{length, getD}
+use Rattle.store.specs.Cells.{Cell, byte, missing, unread}
+
+-- the bytes of a list, in their order
+abbrev pub inBytes : List ℕ → ℕ → Cell
+inBytes bytes p = cond (ltb p (length bytes)) (byte (getD bytes p 0)) missing
+
+-- whether n is one of a list's numbers
+abbrev pub listed : List ℕ → ℕ → Bool
+listed [] n = false
+listed (x ∷ xs) n = eqb x n || listed xs n
+
+-- the bytes of a list, but those of a listed sector, of 2,048 places each, cannot be read
+abbrev pub inSectors : List ℕ → List ℕ → ℕ → Cell
+inSectors bytes bad p =
+  cond (ltb p (length bytes)) (cond (listed bad (p / 2048)) unread (byte (getD bytes p 0))) missing
+
+-- the places below from are the first's, and the second's place 0 stands at from
+abbrev pub inJoined : (ℕ → Cell) → ℕ → (ℕ → Cell) → ℕ → Cell
+inJoined first from second p = cond (ltb p from) (first p) (second (p - from))
