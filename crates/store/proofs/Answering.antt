@@ -10,7 +10,7 @@ use Rattle.std.specs.Iters.{counting}
 use Rattle.std.specs.declared.result.Result.{Result}
 use Rattle.std.specs.declared.result.Result.the-variants.{Ok, Err}
 use Rattle.std.proofs.shelf.Ways.{leb-tells}
-use Rattle.std.proofs.shelf.Counted.{fill-by-all, getD-map-counting}
+use Rattle.std.proofs.shelf.Counted.{fill-by-all, getD-map-counting, length-map-counting}
 use Rattle.store.specs.declared.lack.Lack.{Lack}
 use Rattle.store.specs.declared.lack.Lack.the-variants.{Missing, Unread}
 use Rattle.store.specs.Cells.{Cell, byte, missing, unread, capped}
@@ -145,6 +145,16 @@ filled-at f p old k e h =
 pub fills : (f : ℕ → Cell) (p : ℕ) (old new : List ℕ) → answer f p (length old) ≡ Ok tt → length new ≡ length old
   → ((k : ℕ) → k < length old → getD new k 0 ≡ value (f (p + k))) → new ≡ filled f p old
 fills f p old new e n h = rw e (fill-by-all (λ k. value (f (p + k))) new (length old) 0 n h)
+
+-- stores that have the same at each place of a read leave the same
+pub filled-same : (f g : ℕ → Cell) (p : ℕ) (old : List ℕ) → ((k : ℕ) → k < length old → f (p + k) ≡ g (p + k)) → filled f p old ≡ filled g p old
+filled-same f g p old h =
+  let n = length old in
+  let bytes : map (λ k. value (f (p + k))) (counting 0 n) ≡ map (λ k. value (g (p + k))) (counting 0 n) =
+    fill-by-all (λ k. value (g (p + k))) (map (λ k. value (f (p + k))) (counting 0 n)) n 0 (length-map-counting (λ k. value (f (p + k))) 0 n)
+      (λ k l. getD-map-counting (λ j. value (f (p + j))) 0 n k k 0 l (omega arith) ∙ ap value (h k l)) in
+  ap (λ r. instead r (map (λ k. value (f (p + k))) (counting 0 n)) old) (answer-same f g p p n refl h)
+  ∙ ap (λ b. instead (answer g p n) b old) bytes
 
 -- a byte stands below the end of all stores
 pub byte-below : (f : ℕ → Cell) (q b : ℕ) → capped f q ≡ byte b → q < 2 ^ 48

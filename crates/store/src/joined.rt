@@ -1,0 +1,42 @@
+ghost use Rattle.store.specs.Cells.{capped};
+ghost use Rattle.store.specs.Stores.{inJoined};
+use crate::lack::Lack;
+use crate::store::END;
+use crate::store::Store;
+
+/// Two stores: the places below `from` are the first's, and the second's place 0 stands at `from`.
+#[derive(Clone, Copy)]
+pub struct Joined<A, B> {
+    /// Has the places below `from`.
+    pub first: A,
+    /// Where the second begins.
+    pub from: u64,
+    /// Has the places from `from` on.
+    pub second: B,
+}
+
+pub impl<A: Store, B: Store> Store for Joined<A, B> as JoinedStore {
+    ghost at = { λ s. inJoined (capped (A·Store .at (s .first))) (s .from) (capped (B·Store .at (s .second))) };
+
+    fn check(&self, place: u64, count: usize) -> Result<(), Lack> {
+        let inside = count.min(END.saturating_sub(place) as usize);
+        let low = inside.min(self.from.saturating_sub(place) as usize);
+        self.first.check(place, low)?;
+        match self.second.check(place.saturating_sub(self.from), inside - low) {
+            Err(Lack::Missing(p)) => Err(Lack::Missing(self.from + p)),
+            Err(Lack::Unread(p)) => Err(Lack::Unread(self.from + p)),
+            Ok(()) if inside < count => Err(Lack::Missing(place.max(END))),
+            Ok(()) => Ok(()),
+        }
+    }
+
+    fn read(&self, place: u64, buffer: &mut [u8]) -> Result<(), Lack> {
+        let count = buffer.len();
+        self.check(place, count)?;
+        // All places are bytes now, so neither part refuses.
+        let low = count.min(self.from.saturating_sub(place) as usize);
+        let _ = self.first.read(place, &mut buffer[0..low]);
+        let _ = self.second.read(place.saturating_sub(self.from), &mut buffer[low..count]);
+        Ok(())
+    }
+}
