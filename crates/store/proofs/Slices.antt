@@ -24,8 +24,8 @@ all-bytes bs p n h = answer-by (capped (inBytes bs)) p n (λ k l. (getD bs (p + 
 
 pub cut-off : (bs : List ℕ) (p n e : ℕ) → min (2 ^ 48) (length bs) ≡ e → e - p < n → answer (capped (inBytes bs)) p n ≡ Err (Missing (max p e))
 cut-off bs p n e i h =
-  let q : p + (e - p) ≡ max p e = omega arith in
-  answer-stop (capped (inBytes bs)) p (e - p) n missing (Missing (max p e)) h (all-bytes bs p (e - p) (omega arith))
+    let q : p + (e - p) ≡ max p e = omega arith in
+    answer-stop (capped (inBytes bs)) p (e - p) n missing (Missing (max p e)) h (all-bytes bs p (e - p) (omega arith))
     (none-at bs (p + (e - p)) (omega arith)) (λ r. ap (λ z. Err (Missing z)) q)
 
 pub in-slice : (bs : List ℕ) (q b : ℕ) → capped (inBytes bs) q ≡ byte b → q < length bs
@@ -34,17 +34,17 @@ in-slice bs q b e = grind (arith, tells)
 -- a read that is answered lies in the slice
 pub range : (bs : List ℕ) (p n : ℕ) → answer (capped (inBytes bs)) p n ≡ Ok tt → 0 < n → (p + n ≤ length bs) × (p + n ≤ 2 ^ 48)
 range bs p n e h =
-  let y = answer-each (capped (inBytes bs)) p n (n - 1) (omega arith) e in
-  let i = in-slice bs (p + (n - 1)) (y .0) (y .1) in
-  let j = byte-below (inBytes bs) (p + (n - 1)) (y .0) (y .1) in
-  (omega arith, omega arith)
+    let y = answer-each (capped (inBytes bs)) p n (n - 1) (omega arith) e in
+    let i = in-slice bs (p + (n - 1)) (y .0) (y .1) in
+    let j = byte-below (inBytes bs) (p + (n - 1)) (y .0) (y .1) in
+    (omega arith, omega arith)
 
 -- a copy of the slice's part is what the read leaves
 pub copied : (bs : List ℕ) (p n : ℕ) (old new : List ℕ) → answer (capped (inBytes bs)) p (length old) ≡ Ok tt → 0 < length old → n ≡ length old
-  → new ≡ take n (drop p bs) → new ≡ filled (capped (inBytes bs)) p old
+    → new ≡ take n (drop p bs) → new ≡ filled (capped (inBytes bs)) p old
 copied bs p n old new a h i e0 =
-  let e : new ≡ take (length old) (drop p bs) = e0 ∙ ap (λ z. take z (drop p bs)) i in
-  let r = range bs p (length old) a h in
-  let l : length (take (length old) (drop p bs)) ≡ length old = simp (length-take, length-drop) (omega (arith, r .0)) in
-  fills (capped (inBytes bs)) p old new a (ap length e ∙ l)
+    let e : new ≡ take (length old) (drop p bs) = e0 ∙ ap (λ z. take z (drop p bs)) i in
+    let r = range bs p (length old) a h in
+    let l : length (take (length old) (drop p bs)) ≡ length old = simp (length-take, length-drop) (omega (arith, r .0)) in
+    fills (capped (inBytes bs)) p old new a (ap length e ∙ l)
     (λ k j. ap (λ x. getD x k 0) e ∙ getD-take (length old) (drop p bs) k 0 j ∙ getD-drop p bs k 0 ∙ sym (ap value (byte-at bs (p + k) (omega (arith, r .0, r .1)))))

@@ -21,10 +21,10 @@ pub impl<A: Store, B: Store> Store for Joined<A, B> as JoinedStore {
     fn check(&self, place: u64, count: usize) -> Result<(), Lack> {
         let inside = count.min(END.saturating_sub(place) as usize);
         let low = inside.min(self.from.saturating_sub(place) as usize);
+        let start = place.saturating_sub(self.from);
         self.first.check(place, low)?;
-        match self.second.check(place.saturating_sub(self.from), inside - low) {
-            Err(Lack::Missing(p)) => Err(Lack::Missing(self.from + p)),
-            Err(Lack::Unread(p)) => Err(Lack::Unread(self.from + p)),
+        match self.second.check(start, inside - low) {
+            Err(lack) => Err(lack.moved(self.from)),
             Ok(()) if inside < count => Err(Lack::Missing(place.max(END))),
             Ok(()) => Ok(()),
         }
@@ -33,10 +33,11 @@ pub impl<A: Store, B: Store> Store for Joined<A, B> as JoinedStore {
     fn read(&self, place: u64, buffer: &mut [u8]) -> Result<(), Lack> {
         let count = buffer.len();
         self.check(place, count)?;
-        // All places are bytes now, so neither part refuses.
         let low = count.min(self.from.saturating_sub(place) as usize);
+        let start = place.saturating_sub(self.from);
+        // All the places are bytes, so neither part refuses.
         let _ = self.first.read(place, &mut buffer[0..low]);
-        let _ = self.second.read(place.saturating_sub(self.from), &mut buffer[low..count]);
+        let _ = self.second.read(start, &mut buffer[low..count]);
         Ok(())
     }
 }

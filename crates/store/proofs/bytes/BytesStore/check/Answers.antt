@@ -10,5 +10,5 @@ returns-then-count-saturating-sub c = sym (all-bytes (c .args .self .now .bytes 
 
 pub returns-else-count-saturating-sub : need.returns-else-count-saturating-sub
 returns-else-count-saturating-sub c =
-  ap (λ z. Err (Missing z)) (c .max .ensures)
-  ∙ sym (cut-off (c .args .self .now .bytes .now) (c .args .place) (c .args .count) (c .min-end .result) (omega arith) (omega arith))
+    ap (λ z. Err (Missing z)) (c .max .ensures)
+    ∙ sym (cut-off (c .args .self .now .bytes .now) (c .args .place) (c .args .count) (c .min-end .result) (omega arith) (omega arith))

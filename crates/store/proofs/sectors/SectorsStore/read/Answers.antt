@@ -1,8 +1,9 @@
-use mathlib.Core.Path.{sym, _∙_}
-use Rattle.store.proofs.Unread.{alike}
+use mathlib.Core.Path.{sym}
+use Rattle.store.proofs.Unread.{served}
 use Rattle.store.proofs.sectors.SectorsStore.read.Needs as need
 
 pub returns : need.returns
 returns c =
-  let a = alike (c .args .self .now .bytes .now) (c .args .self .now .unread .now) (c .args .place) (c .args .buffer .now) (sym (c .in-Continue-check .ensures tt)) in
-  record { answer = c .read .ensures .answer ∙ a .answers; buffer = c .read .ensures .buffer ∙ a .leaves }
+    let s = served (c .args .self .now .bytes .now) (c .args .self .now .unread .now) (c .args .place) (c .args .buffer .now) (c .read .result) (c .read .last .buffer)
+    (sym (c .in-Continue-check .ensures tt)) (c .read .ensures .answer) (c .read .ensures .buffer) in
+    record { answer = s .answered; buffer = s .left }
