@@ -13,11 +13,11 @@ use Rattle.std.proofs.shelf.Lists.{take-at, getD-append-left, getD-append-right
 use Rattle.std.proofs.shelf.Tests.{cases-lt}
 use Rattle.std.proofs.shelf.Ways.{tells}
 use Rattle.store.specs.declared.lack.Lack.{Lack}
-use Rattle.store.specs.declared.lack.Lack.the-variants.{Missing, Unread}
+use Rattle.store.specs.declared.lack.Lack.the-variants.{Missing}
 use Rattle.store.specs.Cells.{Cell, byte, missing, unread, capped}
 use Rattle.store.specs.Reads.{answer, before, filled, placeOf, value}
 use Rattle.store.specs.Stores.{inJoined, lackBehind}
-use Rattle.store.proofs.Answering.{answer-at, answer-each, answer-front, answer-past, answer-refused, answer-same, answer-stop, byte-below, filled-at, fills, stop}
+use Rattle.store.proofs.Answering.{answer-each, answer-front, answer-past, answer-refused, answer-same, answer-stop, byte-below, filled-at, fills, stop}
 
 -- what a store answers, in a store that has it behind d places
 abbrev pub moved : ℕ → Result Unit Lack → Result Unit Lack

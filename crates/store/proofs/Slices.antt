@@ -1,5 +1,5 @@
 -- What a read of a slice's bytes answers.
-use mathlib.Core.Path.{_≡_, refl, sym, ap, _∙_}
+use mathlib.Core.Path.{_≡_, sym, ap, _∙_}
 use mathlib.Core.List.{List}
 use Prim.Native.Nat.{ℕ, _+_, _-_, _^_, _<_, _≤_, min, max}
 use native.Mathlib.Omega.{arith}
@@ -8,7 +8,7 @@ use Rattle.std.specs.declared.result.Result.the-variants.{Ok, Err}
 use Rattle.std.proofs.shelf.Lists.{length-take, length-drop, getD-take, getD-drop}
 use Rattle.std.proofs.shelf.Ways.{tells}
 use Rattle.store.specs.declared.lack.Lack.the-variants.{Missing}
-use Rattle.store.specs.Cells.{Cell, byte, missing, capped}
+use Rattle.store.specs.Cells.{byte, missing, capped}
 use Rattle.store.specs.Reads.{answer, filled, value}
 use Rattle.store.specs.Stores.{inBytes}
 use Rattle.store.proofs.Answering.{answer-by, answer-each, answer-stop, byte-below, fills}

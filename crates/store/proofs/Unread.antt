@@ -16,11 +16,11 @@ use Rattle.std.proofs.shelf.Ways.{tells, decides-by-or, decides-eqb, same-from-
 use mathlib.Core.Logic.{⊎-elim}
 use Rattle.store.specs.declared.lack.Lack.{Lack}
 use Rattle.store.specs.declared.lack.Lack.the-variants.{Unread}
-use Rattle.store.specs.Cells.{Cell, byte, missing, unread, capped}
-use Rattle.store.specs.Reads.{answer, filled, value}
+use Rattle.store.specs.Cells.{byte, unread, capped}
+use Rattle.store.specs.Reads.{answer, filled}
 use Rattle.store.specs.Stores.{inBytes, inSectors, listed}
 use Rattle.store.proofs.Answering.{answer-by, answer-each, answer-same, answer-stop, filled-same, Read}
-use Rattle.store.proofs.Slices.{byte-at, none-at}
+use Rattle.store.proofs.Slices.{byte-at}
 
 -- what a search of the list finds
 pub found : (xs : List ℕ) (n : ℕ) (r : Bool) → Some-of (λ y t. Decides t (y ≡ n)) xs r → r ≡ listed xs n

@@ -28,10 +28,10 @@ pub returns-in-Ok : need.returns-in-Ok
 returns-in-Ok g c =
     let s = parts (c .saturating-sub .ensures) (c .min-inside .ensures) (c .saturating-sub-2 .ensures) (c .min-low .ensures) (c .saturating-sub-start .ensures) in
     end-refuses (capped (g .A·Store .at (c .args .self .now .first))) (capped (g .B·Store .at (c .args .self .now .second))) s
-    (c .in-Continue-check .ensures tt) (c .in-Ok .ensures tt) (c .if-inside-count .taken) (c .max .ensures)
+    (c .in-Continue-check .ensures tt) (c .in-Ok .ensures tt) (omega arith) (c .max .ensures)
 
 pub returns-in-Ok-2 : need.returns-in-Ok-2
 returns-in-Ok-2 g c =
     let s = parts (c .saturating-sub .ensures) (c .min-inside .ensures) (c .saturating-sub-2 .ensures) (c .min-low .ensures) (c .saturating-sub-start .ensures) in
     both-answer (capped (g .A·Store .at (c .args .self .now .first))) (capped (g .B·Store .at (c .args .self .now .second))) s
-    (c .in-Continue-check .ensures tt) (c .in-Ok-2 .ensures tt) (c .if-inside-count .left)
+    (c .in-Continue-check .ensures tt) (c .in-Ok-2 .ensures tt) (omega arith)

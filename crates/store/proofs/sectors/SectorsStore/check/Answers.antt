@@ -1,7 +1,7 @@
 use mathlib.Core.Path.{_≡_, sym, ap, _∙_}
 use mathlib.Core.Logic.{⊎-elim}
 use mathlib.Core.Bool.{true, false}
-use Prim.Native.Nat.{ℕ, _/_, _+_, _*_, _<_, _≤_}
+use Prim.Native.Nat.{_/_}
 use native.Mathlib.Omega.{arith}
 use Rattle.std.proofs.shelf.Tests.{cases-lt}
 use Rattle.store.specs.Stores.{listed}
@@ -20,7 +20,7 @@ loop-at-again c =
     let bad = c .args .self .now .unread .now in
     let e : listed (c .args .self .now .unread .now) (c .loop-at .at / 2048) ≡ false = sym (found bad (c .loop-at .at / 2048) (c .contains .result) (c .contains .ensures .cases)) ∙ c .if-contains .left in (
       omega (arith, c .loop-at .inv .0),
-      λ q a b s. ⊎-elim (λ l. c .loop-at .inv .1 q a l s) (λ l. ap (listed bad) (same-sector (c .loop-at .at) q l b) ∙ e) (cases-lt q (c .loop-at .at)),
+      λ q a b s. ⊎-elim (λ l. c .loop-at .inv .1 q a l s) (λ l. ap (listed bad) (same-sector (c .loop-at .at) q l (omega arith)) ∙ e) (cases-lt q (c .loop-at .at)),
     )
 
 pub returns : need.returns
