@@ -6,6 +6,9 @@ ghost use Rattle.store.specs.Cells.{Cell, capped};
 ghost use Rattle.store.specs.Reads.{answer, filled};
 use crate::lack::Lack;
 
+/// No store has a place from here on.
+pub(crate) const END: u64 = 0x1_0000_0000_0000;
+
 /// A store of bytes. What stands at a place is `capped (at store)`: every place from 2^48 on is missing.
 pub trait Store {
     ghost at: { Self → ℕ → Cell };

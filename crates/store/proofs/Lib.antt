@@ -1,0 +1,4 @@
+pub mod Answering
+pub mod Slices
+pub mod Unread
+pub mod Joining
