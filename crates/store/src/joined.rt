@@ -19,6 +19,7 @@ pub impl<A: Store, B: Store> Store for Joined<A, B> as JoinedStore {
     ghost at = { λ s. inJoined (capped (A·Store .at (s .first))) (s .from) (capped (B·Store .at (s .second))) };
 
     fn check(&self, place: u64, count: usize) -> Result<(), Lack> {
+        // Of the places, `inside` are below the end of all stores, and `low` of these are the first's.
         let inside = count.min(END.saturating_sub(place) as usize);
         let low = inside.min(self.from.saturating_sub(place) as usize);
         let start = place.saturating_sub(self.from);

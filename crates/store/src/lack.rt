@@ -21,6 +21,7 @@ impl Lack {
             Lack::Missing(place) | Lack::Unread(place) => place,
         }
     }
+
     /// The same lack, `by` places further on.
     pub(crate) fn moved(self, by: u64) -> Lack
         requires { ⌜ by + placeOf self < 2 ^ 64 ⌝ }
