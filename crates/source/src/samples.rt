@@ -6,6 +6,15 @@ ghost use Rattle.source.specs.Raster.{sampleBytes, sampleOf, codeOf, from};
 ghost use Rattle.source.specs.Runs.{Decoded};
 use pixel::Kind;
 
+/// How many bytes a pixel has.
+pub fn pixel_bytes<K: Kind>(wide: bool) -> usize
+    ensures value { λ r. ⌜ r ≡ K·Kind .ops .depth * sampleBytes wide ⌝ }
+    ensures some { λ r. ⌜ 1 ≤ r ⌝ }
+    ensures few { λ r. ⌜ r ≤ 6 ⌝ }
+{
+    if wide { 2 * K::depth() } else { K::depth() }
+}
+
 /// The sample of this index of the pixel whose bytes begin at `start`.
 fn sample(bytes: &[u8], start: usize, index: usize, wide: bool) -> u16
     requires few { ⌜ index < 3 ⌝ }
@@ -40,7 +49,7 @@ pub fn decode<K: Kind>(bytes: &[u8], wide: bool, maxval: u16, out: &mut [u64]) -
     requires { ⌜ length (now out) * (K·Kind .ops .depth * sampleBytes wide) ≤ length (now bytes) ⌝ }
     ensures { λ r. ⌜ Decoded (K·Kind .ops) wide maxval (now (bytes .entry)) (length (now (out .entry))) r (now (out .exit)) ⌝ }
 {
-    let step = if wide { 2 * K::depth() } else { K::depth() };
+    let step = pixel_bytes::<K>(wide);
     for k in 0..out.len() {
         match pixel_code::<K>(bytes, k * step, wide, maxval) {
             Some(code) => out[k] = code,
