@@ -1,2 +1,4 @@
 pub mod Raster
 pub mod Runs
+pub mod Files
+pub mod Loading
