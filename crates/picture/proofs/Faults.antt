@@ -62,3 +62,17 @@ module _ {K S : Type 0} (o : Ops K S) where
   shown-clean f zero codes s = refl
   shown-clean f (suc n) codes s =
       ap (λ x. orElse x (faultOf (f n))) (shown-clean f n codes (λ k h. s k (omega arith))) ∙ coded-clean (f n) (getD codes n 0) (s n (omega arith))
+
+-- a row goes on behind its first a places
+pub line-on : {K : Type 0} (i : Image K) (left row a k : ℕ) → lined i (left + a) row k ≡ lined i left row (a + k)
+line-on i left row a k = let e : left + a + k ≡ left + (a + k) = omega arith in ap (λ x. i .at x row) e
+
+-- the first a places of a row have no hole, and the next n have this one
+pub first-on : {K : Type 0} (i : Image K) (left row a n len : ℕ) (e : Fault) → firstFault (lined i left row) a ≡ None → Err e ≡ firstIn (lined i (left + a) row) n → a + n ≤ len
+    → Err e ≡ firstIn (lined i left row) len
+first-on i left row a n len e c h l =
+    let f : firstFault (lined i (left + a) row) n ≡ Some e = fault-of-err _ _ h in
+    let g : firstFault (lined i left row) (a + n) ≡ Some e =
+      first-append (lined i left row) a n ∙ ap (λ x. orElse x (firstFault (λ k. lined i left row (a + k)) n)) c
+      ∙ first-same (λ k. lined i left row (a + k)) (lined i (left + a) row) n (λ k m. sym (line-on i left row a k)) ∙ f in
+    ap orFault (sym (first-stays (lined i left row) (a + n) len e l g))

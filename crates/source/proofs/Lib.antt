@@ -1,2 +1,3 @@
 pub mod Sampling
 pub mod Loads
+pub mod Rasters

@@ -31,6 +31,10 @@ lacking (Err x) = Some (lackCause x)
 abbrev pub faultAt : ℕ → ℕ → ℕ → Cause → Fault
 faultAt source x y c = record { cause = c; source = source; column = x; row = y }
 
+-- a source has no steps
+abbrev pub sourced : {K : Type 0} → Image K → Model K
+sourced i = record { shown = i; steps = []; source = i }
+
 module _ {K S : Type 0} (o : Ops K S) where
   -- a hole by the first byte that is missing or unread, else by a sample above maxval, else the pixel
   abbrev pub seen : Option Cause → ℕ → List ℕ → (Cause → Fault) → Place K
@@ -50,7 +54,3 @@ module _ {K S : Type 0} (o : Ops K S) where
     height = r .size .height;
     maxval = r .size .maxval;
     at = λ x y. pixelAt at (r .size .maxval) (r .start + (y * r .size .width + x) * pixelBytes (r .size .maxval)) (faultAt (r .source) x y) }
-
-  -- a source has no steps
-  abbrev pub sourced : Image K → Model K
-  sourced i = record { shown = i; steps = []; source = i }

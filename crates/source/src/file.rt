@@ -6,13 +6,20 @@ ghost use lib.ListN.{length, getD};
 ghost use Rattle.std.specs.declared.result.Result.the-variants.{Ok};
 ghost use Rattle.store.specs.Cells.{capped};
 ghost use Rattle.picture.specs.Prepare.{firstIn, lined, Shown};
-ghost use Rattle.source.specs.Files.{rasterImage, lackCause};
+ghost use Rattle.source.specs.Files.{rasterImage, lackCause, sourced};
+ghost use denote.Ref.{now};
 ghost use Rattle.source.specs.Loading.{Loaded};
 use crate::raster::Raster;
 use crate::samples::decode;
 use crate::samples::pixel_bytes;
 use picture::Cause;
 use picture::Fault;
+use picture::Picture;
+use picture::Rect;
+use picture::Refusal;
+use picture::Rows;
+use picture::Size;
+use picture::serve;
 use pixel::Kind;
 use std::marker::PhantomData;
 use store::Lack;
@@ -25,7 +32,8 @@ const RUN: usize = 1024;
 const BLOCK: usize = 6144;
 
 /// The picture in a file, whose bytes a store has.
-pub struct FileSource<S, K> {
+#[derive(Drop)]
+pub struct FileSource<S: Store, K: Kind> {
     store: S,
     raster: Raster,
     count: u64,
@@ -63,4 +71,77 @@ fn read_pixels<S: Store>(store: &S, place: u64, step: usize, count: usize, block
             Load { pixels, lack: Some(cause_of(lack)) }
         }
     }
+}
+
+impl<S: Store, K: Kind> FileSource<S, K> {
+    /// A run of pixels of a row, or the fault of the first hole among them.
+    fn run(&mut self, left: u32, row: u32, out: &mut [u64]) -> Result<(), Fault>
+        requires across { ⌜ left + length (now out) ≤ now self .raster .size .width ⌝ }
+        requires down { ⌜ row < now self .raster .size .height ⌝ }
+        requires short { ⌜ length (now out) ≤ 1024 ⌝ }
+        ensures answer { λ r. ⌜ r ≡ firstIn (lined (rasterImage (K·Kind .ops) (capped (S·Store .at (now (self .entry) .store))) (now (self .entry) .raster)) left row) (length (now (out .entry))) ⌝ }
+        ensures shown { λ r. ⌜ (r ≡ Ok tt → Shown (K·Kind .ops) (lined (rasterImage (K·Kind .ops) (capped (S·Store .at (now (self .entry) .store))) (now (self .entry) .raster)) left row) (length (now (out .entry))) (now (out .exit))) ⌝ }
+        ensures store { λ _. ⌜ now (self .exit) .store ≡ now (self .entry) .store ⌝ }
+        ensures raster { λ _. ⌜ now (self .exit) .raster ≡ now (self .entry) .raster ⌝ }
+        ensures count { λ _. ⌜ now (self .exit) .count ≡ now (self .entry) .count ⌝ }
+    {
+        let Raster { start, size, source } = self.raster;
+        let wide = size.maxval >= 256;
+        let step = pixel_bytes::<K>(wide);
+        let place = start + (row as u64 * size.width as u64 + left as u64) * step as u64;
+        let Load { pixels, lack } = read_pixels(&self.store, place, step, out.len(), &mut self.block);
+        let taken = decode::<K>(&self.block, wide, size.maxval, &mut out[0..pixels]);
+        if taken < pixels {
+            return Err(Fault { cause: Cause::Above, source, column: left + taken as u32, row });
+        }
+        match lack {
+            None => Ok(()),
+            Some(cause) => Err(Fault { cause, source, column: left + taken as u32, row }),
+        }
+    }
+}
+
+pub impl<S: Store, K: Kind> Rows for FileSource<S, K> as FileRows {
+    type Pixel = K;
+
+    ghost view = { λ s. rasterImage (K·Kind .ops) (capped (S·Store .at (s .store))) (s .raster) };
+    ghost ready = { λ _. Unit {0} };
+    ghost same = { λ s t. (s .store ≡ t .store) × (s .raster ≡ t .raster) × (s .count ≡ t .count) };
+
+    fn row(&mut self, left: u32, row: u32, out: &mut [u64]) -> Result<(), Fault> {
+        let mut done = 0;
+        while done < out.len() {
+            let n = (out.len() - done).min(RUN);
+            match self.run(left + done as u32, row, &mut out[done..done + n]) {
+                Ok(()) => done += n,
+                Err(fault) => return Err(fault),
+            }
+        }
+        Ok(())
+    }
+}
+
+pub impl<S: Store, K: Kind> Picture for FileSource<S, K> as FilePicture {
+    type Pixel = K;
+
+    ghost model = { λ s. sourced (rasterImage (K·Kind .ops) (capped (S·Store .at (s .store))) (s .raster)) };
+    ghost count = { λ s. s .count };
+    ghost sound = { λ _. Unit {0} };
+    ghost bare = { λ _. Unit {0} };
+
+    fn size(&self) -> Size {
+        self.raster.size
+    }
+
+    fn prepare(&mut self, rect: Rect, buffer: &mut [u64]) -> Result<(), Refusal> {
+        self.count = self.count.saturating_add(1);
+        let Size { width, height, .. } = self.raster.size;
+        serve(self, width, height, rect, buffer)
+    }
+
+    fn count(&self) -> u64 {
+        self.count
+    }
+
+    fn forget(&mut self) {}
 }
