@@ -1,3 +1,4 @@
 pub mod Sampling
 pub mod Loads
 pub mod Rasters
+pub mod Remembering

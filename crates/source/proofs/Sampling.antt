@@ -57,3 +57,10 @@ module _ (w : Bool) (byte : ℕ → ℕ) where
   code-none o m k h l =
     cond-false (under m (samplesOf w byte (o .depth))) _ _
       (false-of (under m (samplesOf w byte (o .depth))) (λ e. let a = under-at m (samplesOf w byte (o .depth)) e k in omega (arith, samples-at (o .depth) k h)))
+
+pub under-of : (m : ℕ) (xs : List ℕ) → ((j : ℕ) → j < length xs → getD xs j 0 ≤ m) → under m xs ≡ true
+under-of m [] h = refl
+under-of m (x ∷ xs) h = and-from (leb x m) (under m xs) (le-leb x m (h 0 (omega arith))) (under-of m xs (λ j l. h (suc j) (omega arith)))
+
+pub under-not : (m : ℕ) (xs : List ℕ) (k : ℕ) → m < getD xs k 0 → under m xs ≡ false
+under-not m xs k h = false-of (under m xs) (λ e. let a = under-at m xs e k in omega arith)

@@ -2,3 +2,4 @@ pub mod Raster
 pub mod Runs
 pub mod Files
 pub mod Loading
+pub mod Memory

@@ -33,7 +33,7 @@ const BLOCK: usize = 6144;
 
 /// The picture in a file, whose bytes a store has.
 #[derive(Drop)]
-pub struct FileSource<S: Store, K: Kind> {
+pub struct FileSource<S, K> {
     store: S,
     raster: Raster,
     count: u64,
