@@ -1,2 +1,4 @@
 pub mod Running
 pub mod Fronting
+pub mod Classes
+pub mod Accepting
