@@ -21,17 +21,17 @@ pub data Of (b : ℕ) : Class → Type 0 where
 
 a-white : (b : ℕ) → (eqb b 32 || eqb b 9 || eqb b 13) ≡ true → grammar.White b
 a-white b e =
-  ⊎-elim (λ h. subst grammar.White (sym (h .1)) grammar.space)
-  (λ p. ⊎-elim (λ h. subst grammar.White (sym (h .1)) grammar.tab)
-  (λ q. ⊎-elim (λ h. subst grammar.White (sym (h .1)) grammar.return)
-  (λ r. absurd (both-ways (eqb b 32 || eqb b 9 || eqb b 13) (rw (p .0, q .0, r .0)) e)) (eqb-tells b 13)) (eqb-tells b 9)) (eqb-tells b 32)
+    ⊎-elim (λ h. subst grammar.White (sym (h .1)) grammar.space)
+    (λ p. ⊎-elim (λ h. subst grammar.White (sym (h .1)) grammar.tab)
+    (λ q. ⊎-elim (λ h. subst grammar.White (sym (h .1)) grammar.return)
+    (λ r. absurd (both-ways (eqb b 32 || eqb b 9 || eqb b 13) (rw (p .0, q .0, r .0)) e)) (eqb-tells b 13)) (eqb-tells b 9)) (eqb-tells b 32)
 
 pub class : (b : ℕ) → Of b (classOf b)
 class b =
-  cond-both (eqb b 10) Newline _ (Of b) (λ e. newline (eqb-true b 10 e))
-  (λ n. cond-both (eqb b 32 || eqb b 9 || eqb b 13) White _ (Of b) (λ e. white (eqb-false b 10 n) (a-white b e))
-  (λ _. cond-both (eqb b 35) Hash _ (Of b) (λ e. hash (eqb-true b 35 e))
-  (λ _. cond-both (leb 48 b && leb b 57) (Digit (b - 48)) Other (Of b)
+    cond-both (eqb b 10) Newline _ (Of b) (λ e. newline (eqb-true b 10 e))
+    (λ n. cond-both (eqb b 32 || eqb b 9 || eqb b 13) White _ (Of b) (λ e. white (eqb-false b 10 n) (a-white b e))
+    (λ _. cond-both (eqb b 35) Hash _ (Of b) (λ e. hash (eqb-true b 35 e))
+    (λ _. cond-both (leb 48 b && leb b 57) (Digit (b - 48)) Other (Of b)
     (λ e. let a = and-parts (leb 48 b) (leb b 57) e in digit (leb-true 48 b (a .0)) (leb-true b 57 (a .1)))
     (λ _. other (eqb-false b 10 n)))))
 

@@ -24,8 +24,8 @@ record All (f : ℕ → Cell) (p n : ℕ) (xs : List ℕ) : Type 0 where
 each-more : (f : ℕ → Cell) (p n b : ℕ) (xs : List ℕ) → byte b ≡ f p → All f (p + 1) n xs → (k : ℕ) → k < suc n → getD (b ∷ xs) k 0 ≡ value (f (p + k))
 each-more f p n b xs e a zero h = ap value e ∙ ap (λ q. value (f q)) (sym (add-zero p))
 each-more f p n b xs e a (suc k) h =
-  let q : p + 1 + k ≡ p + suc k = omega arith in
-  a .each k (omega arith) ∙ ap (λ q. value (f q)) q
+    let q : p + 1 + k ≡ p + suc k = omega arith in
+    a .each k (omega arith) ∙ ap (λ q. value (f q)) q
 
 all-more : (f : ℕ → Cell) (p n : ℕ) (x : Cell) (r : Result Unit Lack) (xs : List ℕ) → x ≡ f p → before x p r ≡ Ok tt → (r ≡ Ok tt → All f (p + 1) n xs) → All f p (suc n) (more x xs)
 all-more f p n (byte b) r xs e a h = let i = h a in record { long = omega (arith, i .long); each = each-more f p n b xs e i }
@@ -40,9 +40,9 @@ all f p (suc n) e = all-more f p n (f p) (answer f (p + 1) n) (available f (p + 
 -- what a read that fills leaves is what stands there
 pub filled-all : (f : ℕ → Cell) (p : ℕ) (old : List ℕ) → answer f p (length old) ≡ Ok tt → filled f p old ≡ available f p (length old)
 filled-all f p old e =
-  let a = all f p (length old) e in
-  ap (λ r. instead r (map (λ k. value (f (p + k))) (counting 0 (length old))) old) e
-  ∙ sym (fill-by-all (λ k. value (f (p + k))) (available f p (length old)) (length old) 0 (a .long) (a .each))
+    let a = all f p (length old) e in
+    ap (λ r. instead r (map (λ k. value (f (p + k))) (counting 0 (length old))) old) e
+    ∙ sym (fill-by-all (λ k. value (f (p + k))) (available f p (length old)) (length old) 0 (a .long) (a .each))
 
 pub length-all : (f : ℕ → Cell) (p n : ℕ) → answer f p n ≡ Ok tt → length (available f p n) ≡ n
 length-all f p n e = all f p n e .long
@@ -62,12 +62,13 @@ here f p n q x y e s m = record { count = 0; within = omega arith; place = let t
 later : (f : ℕ → Cell) (p n b : ℕ) (x : Lack) → byte b ≡ f p → Stop f (p + 1) n x → Stop f p (suc n) x
 unfolding answer available
 later f p n b x e s =
-  record {
-    count = suc (s .count);
-    within = omega (arith, s .within);
-    place = omega (arith, s .place);
-    good = ap (λ y. before y p (answer f (p + 1) (s .count))) (sym e) ∙ s .good;
-    same = ap (more (f p)) (s .same) }
+    record {
+      count = suc (s .count);
+      within = omega (arith, s .within);
+      place = omega (arith, s .place);
+      good = ap (λ y. before y p (answer f (p + 1) (s .count))) (sym e) ∙ s .good;
+      same = ap (more (f p)) (s .same);
+    }
 
 stop-more : (f : ℕ → Cell) (p n : ℕ) (x : Cell) (y : Lack) → x ≡ f p → before x p (answer f (p + 1) n) ≡ Err y → (answer f (p + 1) n ≡ Err y → Stop f (p + 1) n y) → Stop f p (suc n) y
 stop-more f p n (byte b) y e a h = later f p n b y e (h a)
@@ -79,8 +80,8 @@ unfolding answer
 stop f p zero x e = let z : _≡_ {A = ℕ} 0 1 = cc in absurd (omega arith)
 stop f p (suc n) x e = stop-more f p n (f p) x refl e (stop f (p + 1) n x)
 
-pub stop-within : (f : ℕ → Cell) (n : ℕ) (x : Lack) → answer f 0 n ≡ Err x → placeOf x < n
-stop-within f n x e = let s = stop f 0 n x e in omega (arith, s .place, s .within)
+pub stop-within : (f : ℕ → Cell) (n r : ℕ) (x : Lack) → Err x ≡ answer f 0 n → r ≡ placeOf x → r ≤ n
+stop-within f n r x e h = let s = stop f 0 n x (sym e) in omega (arith, s .place, s .within)
 
 -- the first n of new are the bytes that f begins with, up to m
 pub record Front (f : ℕ → Cell) (m n : ℕ) (new : List ℕ) : Type 0 where
@@ -90,20 +91,21 @@ pub record Front (f : ℕ → Cell) (m n : ℕ) (new : List ℕ) : Type 0 where
 
 pub front-ok : (f : ℕ → Cell) (old new : List ℕ) → Ok tt ≡ answer f 0 (length old) → new ≡ filled f 0 old → Front f (length old) (length new) new
 front-ok f old new e h =
-  let a : new ≡ available f 0 (length old) = h ∙ filled-all f 0 old (sym e) in
-  let l : length (available f 0 (length old)) ≡ length old = length-all f 0 (length old) (sym e) in
-  record { count = ap length a; bytes = take-all (length new) new (omega arith) ∙ a; within = omega (arith, ap length a) }
+    let a : new ≡ available f 0 (length old) = h ∙ filled-all f 0 old (sym e) in
+    let l : length (available f 0 (length old)) ≡ length old = length-all f 0 (length old) (sym e) in
+    record { count = ap length a; bytes = take-all (length new) new (omega arith) ∙ a; within = omega (arith, ap length a) }
 
 pub front-err : (f : ℕ → Cell) (m n : ℕ) (x : Lack) (part old rest : List ℕ) → Err x ≡ answer f 0 m → n ≡ placeOf x → length old ≡ n → part ≡ filled f 0 old → Front f m n (part ++ rest)
 front-err f m n x part old rest e h l p =
-  let s = stop f 0 m x (sym e) in
-  let k : s .count ≡ n = omega (arith, s .place) in
-  let o : answer f 0 n ≡ Ok tt = subst (λ j. answer f 0 j ≡ Ok tt) k (s .good) in
-  let o2 : answer f 0 (length old) ≡ Ok tt = subst (λ j. answer f 0 j ≡ Ok tt) (sym l) o in
-  let b : available f 0 n ≡ available f 0 m = sym (s .same ∙ ap (available f 0) k) in
-  let a : part ≡ available f 0 n = p ∙ filled-all f 0 old o2 ∙ ap (available f 0) l in
-  let z : length (available f 0 n) ≡ n = length-all f 0 n o in
-  record {
-    count = sym (sym (ap length b) ∙ z);
-    bytes = take-at part rest n (ap length a ∙ z) ∙ a ∙ b;
-    within = omega (arith, s .within) }
+    let s = stop f 0 m x (sym e) in
+    let k : s .count ≡ n = omega (arith, s .place) in
+    let o : answer f 0 n ≡ Ok tt = subst (λ j. answer f 0 j ≡ Ok tt) k (s .good) in
+    let o2 : answer f 0 (length old) ≡ Ok tt = subst (λ j. answer f 0 j ≡ Ok tt) (sym l) o in
+    let b : available f 0 n ≡ available f 0 m = sym (s .same ∙ ap (available f 0) k) in
+    let a : part ≡ available f 0 n = p ∙ filled-all f 0 old o2 ∙ ap (available f 0) l in
+    let z : length (available f 0 n) ≡ n = length-all f 0 n o in
+    record {
+      count = sym (sym (ap length b) ∙ z);
+      bytes = take-at part rest n (ap length a ∙ z) ∙ a ∙ b;
+      within = omega (arith, s .within);
+    }

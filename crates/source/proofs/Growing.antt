@@ -34,8 +34,11 @@ worth-more v (x ∷ ds) b = worth-more (10 * v + (x - 48)) ds b
 
 pub number-more : (v : ℕ) (ds : List ℕ) (b : ℕ) → Number v ds → 48 ≤ b → b ≤ 57 → Number (10 * v + (b - 48)) (ds ++ (b ∷ []))
 number-more v ds b n l u =
-  record { some = simp length-append (omega arith); digits = digits-more ds b (n .digits) l u;
-    value = worth-more 0 ds b ∙ ap (λ x. 10 * x + (b - 48)) (n .value) }
+    record {
+      some = simp length-append (omega arith);
+      digits = digits-more ds b (n .digits) l u;
+      value = worth-more 0 ds b ∙ ap (λ x. 10 * x + (b - 48)) (n .value);
+    }
 
 pub number-one : (b : ℕ) → 48 ≤ b → b ≤ 57 → Number (b - 48) (b ∷ [])
 number-one b l u = record { some = omega arith; digits = ((l, u), tt); value = let e : 10 * 0 + (b - 48) ≡ b - 48 = omega arith in e }

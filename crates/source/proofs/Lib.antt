@@ -4,3 +4,4 @@ pub mod Classes
 pub mod Accepting
 pub mod Growing
 pub mod Following
+pub mod Laws

@@ -45,4 +45,4 @@ pub record Number (v : ℕ) (ds : List ℕ) : Type 0 where
 -- 'P' and the kind's digit, then width, height and maxval, each behind a gap, then one white byte
 pub data IsHeader (mark w h m : ℕ) : List ℕ → Type 0 where
   header : {a x b y c z : List ℕ} {e : ℕ} → Gap a → Number w x → Gap b → Number h y → Gap c → Number m z → White e
-    → IsHeader mark w h m (80 ∷ mark ∷ (a ++ (x ++ (b ++ (y ++ (c ++ (z ++ (e ∷ []))))))))
+      → IsHeader mark w h m (80 ∷ mark ∷ (a ++ (x ++ (b ++ (y ++ (c ++ (z ++ (e ∷ []))))))))

@@ -21,10 +21,10 @@ use Rattle.source.specs.Limits.{limitOf}
 -- LF; space, TAB or CR; '#'; a digit and its value; any other byte
 abbrev pub classOf : ℕ → Class
 classOf b =
-  cond (eqb b 10) Newline
-  (cond (eqb b 32 || eqb b 9 || eqb b 13) White
-  (cond (eqb b 35) Hash
-  (cond (leb 48 b && leb b 57) (Digit (b - 48)) Other)))
+    cond (eqb b 10) Newline
+    (cond (eqb b 32 || eqb b 9 || eqb b 13) White
+    (cond (eqb b 35) Hash
+    (cond (leb 48 b && leb b 57) (Digit (b - 48)) Other)))
 
 -- another state, and the same numbers
 abbrev pub to : State → Reader → Result Reader HeaderError

@@ -46,12 +46,12 @@ pub record BeginsAllowed (mark : ℕ) (bytes : List ℕ) : Type 0 where
 -- the bytes end with the white byte behind a number that is not allowed, and those before it are
 pub data Spoiled (mark : ℕ) : List ℕ → Type 0 where
   at-width : {w : ℕ} {a x : List ℕ} {e : ℕ} → Gap a → grammar.Number w x → (Allowed Width w → ⊥) → White e
-    → Spoiled mark (80 ∷ mark ∷ (a ++ (x ++ (e ∷ []))))
+      → Spoiled mark (80 ∷ mark ∷ (a ++ (x ++ (e ∷ []))))
   at-height : {w h : ℕ} {a x b y : List ℕ} {e : ℕ} → Gap a → grammar.Number w x → Allowed Width w → Gap b → grammar.Number h y → (Allowed Height h → ⊥) → White e
-    → Spoiled mark (80 ∷ mark ∷ (a ++ (x ++ (b ++ (y ++ (e ∷ []))))))
+      → Spoiled mark (80 ∷ mark ∷ (a ++ (x ++ (b ++ (y ++ (e ∷ []))))))
   at-maxval : {w h m : ℕ} {a x b y c z : List ℕ} {e : ℕ} → Gap a → grammar.Number w x → Allowed Width w → Gap b → grammar.Number h y → Allowed Height h
-    → Gap c → grammar.Number m z → (Allowed Maxval m → ⊥) → White e
-    → Spoiled mark (80 ∷ mark ∷ (a ++ (x ++ (b ++ (y ++ (c ++ (z ++ (e ∷ []))))))))
+      → Gap c → grammar.Number m z → (Allowed Maxval m → ⊥) → White e
+      → Spoiled mark (80 ∷ mark ∷ (a ++ (x ++ (b ++ (y ++ (c ++ (z ++ (e ∷ []))))))))
 
 -- why a header is refused
 abbrev pub Why : ℕ → List ℕ → HeaderError → Type 0

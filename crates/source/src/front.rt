@@ -22,7 +22,7 @@ fn front<S: Store>(store: &S, buffer: &mut [u8]) -> usize
         Ok(()) => buffer.len(),
         Err(lack) => {
             let n = lack.place() as usize;
-            let _ = store.read(0, &mut buffer[0..n]);
+            let _ = store.read(0, &mut buffer[..n]);
             n
         }
     }
@@ -36,5 +36,5 @@ pub fn read_header<S: Store>(store: &S, mark: u8) -> Result<Header, HeaderError>
 {
     let mut buffer = [0u8; HEADER_LIMIT];
     let n = front(store, &mut buffer);
-    parse(mark, &buffer[0..n])
+    parse(mark, &buffer[..n])
 }

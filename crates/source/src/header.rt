@@ -59,10 +59,17 @@ fn scan(rest: &[u8]) -> Result<Header, HeaderError>
     for (i, b) in rest.iter().enumerate() {
         reader.take(i as u32 + 2, *b)?;
         if let State::Done = reader.state {
-            return Ok(Header { width: reader.width, height: reader.height, maxval: reader.maxval, length: i as u64 + 3 });
+            return Ok(Header {
+                width: reader.width,
+                height: reader.height,
+                maxval: reader.maxval,
+                length: i as u64 + 3,
+            });
         }
     }
-    Err(HeaderError::End { place: rest.len() as u32 + 2 })
+    Err(HeaderError::End {
+        place: rest.len() as u32 + 2,
+    })
 }
 
 /// The mark, and what stands behind it.
@@ -73,7 +80,9 @@ fn decide(mark: u8, bytes: &[u8]) -> Result<Header, HeaderError>
     match bytes {
         [b'P', digit, rest @ ..] if *digit == mark => scan(rest),
         [_, _, ..] => Err(HeaderError::Mark),
-        _ => Err(HeaderError::End { place: bytes.len() as u32 }),
+        _ => Err(HeaderError::End {
+            place: bytes.len() as u32,
+        }),
     }
 }
 

@@ -83,7 +83,12 @@ impl Reader {
     pub fn new() -> Reader
         ensures { λ r. ⌜ r ≡ start ⌝ }
     {
-        Reader { state: State::Marked, width: 0, height: 0, maxval: 0 }
+        Reader {
+            state: State::Marked,
+            width: 0,
+            height: 0,
+            maxval: 0,
+        }
     }
 
     /// Judges a number by the white byte behind it, which is at `place`.
@@ -120,14 +125,24 @@ impl Reader {
             (State::Marked, Class::Newline | Class::White) => self.state = State::Gap(Field::Width),
             (State::Gap(_), Class::Newline | Class::White) => {}
             (State::Gap(field), Class::Hash) => self.state = State::Comment(field),
-            (State::Gap(field), Class::Digit(d)) => self.state = State::Number { field, value: d as u32 },
+            (State::Gap(field), Class::Digit(d)) => self.state = State::Number {
+                field,
+                value: d as u32,
+            },
             (State::Comment(field), Class::Newline) => self.state = State::Gap(field),
             (State::Comment(_), _) => {}
             (State::Number { field, value }, Class::Digit(d)) => {
-                let value = value.saturating_mul(10).saturating_add(d as u32).min(field.limit() + 1);
+                let value = value
+                    .saturating_mul(10)
+                    .saturating_add(d as u32)
+                    .min(field.limit() + 1);
                 self.state = State::Number { field, value };
             }
-            (State::Number { field, value }, Class::Newline | Class::White) => return self.judge(place, field, value),
+            (State::Number { field, value }, Class::Newline | Class::White) => return self.judge(
+                place,
+                field,
+                value,
+            ),
             _ => return Err(HeaderError::Byte { place }),
         }
         Ok(())

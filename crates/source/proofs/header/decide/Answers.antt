@@ -7,4 +7,4 @@ use Rattle.source.proofs.header.decide.Needs as need
 
 pub returns-in-80 : need.returns-in-80
 returns-in-80 c =
-  c .scan .ensures ∙ sym (headerOf-mark (c .args .mark) (c .args .bytes .now) (omega (arith, ltb-false)) (search needs) (search needs))
+    c .scan .ensures ∙ sym (headerOf-mark (c .args .mark) (c .args .bytes .now) (omega (arith, ltb-false)) (search needs) (search needs))
