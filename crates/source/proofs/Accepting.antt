@@ -6,7 +6,7 @@ use Prim.Native.Nat.{ℕ, suc, _+_, _-_, _*_, _≤_, min}
 use native.Mathlib.Omega.{arith}
 use lib.Dec.{eqb, leb}
 use lib.ListN.{length, length-append}
-use Rattle.std.proofs.shelf.Tests.{and-from, le-leb, cond-true, cond-both, eq-eqb}
+use Rattle.std.proofs.shelf.Tests.{and-from, and-parts, le-leb, leb-true, cond-true, cond-both, eq-eqb}
 use Rattle.std.proofs.shelf.Ways.{tells}
 use Rattle.std.specs.declared.result.Result.{Result}
 use Rattle.std.specs.declared.result.Result.the-variants.{Ok, Err}
@@ -24,6 +24,7 @@ use Rattle.source.specs.Header.{allowed, classOf, headerOf, judged, kept, long
 use Rattle.source.specs.Grammar as grammar
 use Rattle.source.specs.Grammar.{Blank, Digits, IsHeader, Text, worth}
 use Rattle.source.specs.Limits.{Allowed, limitOf}
+use Rattle.source.specs.Reading.{Spoiled, at-width, at-height, at-maxval}
 use Rattle.source.proofs.Running.{on}
 
 abbrev pub at : State → ℕ → ℕ → ℕ → Reader
@@ -202,25 +203,70 @@ good f v n r a =
 same : (f : Field) (v : ℕ) → Allowed f v → sat f v ≡ v
 same f v a = omega (arith, a .1)
 
+passes : (x : Result Header HeaderError) (f : Field) (v : ℕ) → Allowed f v → Pass (λ y. y ≡ x) f v
+passes x f v a n bs r i = ap (on n bs) (good f v n r a) ∙ i
+
 pub accepts : (mark w h m : ℕ) {front : List ℕ} (rest : List ℕ) → IsHeader mark w h m front → Allowed Width w → Allowed Height h → Allowed Maxval m
     → headerOf mark (front ++ rest) ≡ Ok (record { width = w; height = h; maxval = m; length = length front })
 accepts mark w h m {front} rest is p q r =
-    carried (λ x. x ≡ Ok (record { width = w; height = h; maxval = m; length = length front })) mark w h m rest is
-    (λ n bs s i. ap (on n bs) (good Width w n s p) ∙ i) (λ n bs s i. ap (on n bs) (good Height h n s q) ∙ i) (λ n bs s i. ap (on n bs) (good Maxval m n s r) ∙ i)
+    let x = Ok (record { width = w; height = h; maxval = m; length = length front }) in
+    carried (λ y. y ≡ x) mark w h m rest is (passes x Width w p) (passes x Height h q) (passes x Maxval m r)
     (ap (λ v. Ok (record { width = v; height = sat Height h; maxval = sat Maxval m; length = length front })) (same Width w p)
     ∙ ap (λ v. Ok (record { width = w; height = v; maxval = sat Maxval m; length = length front })) (same Height h q)
     ∙ ap (λ v. Ok (record { width = w; height = h; maxval = v; length = length front })) (same Maxval m r))
 
--- whatever the numbers, no byte is refused
-abbrev pub Fine : Result Header HeaderError → Type 0
-Fine (Ok _) = Unit {0}
-Fine (Err error.Mark) = ⊥
-Fine (Err (error.End _)) = ⊥
-Fine (Err (error.Byte _)) = ⊥
-Fine (Err (error.Number _)) = Unit {0}
+-- whatever the numbers, no byte is refused, and what is accepted is no shorter
+abbrev pub Fine : ℕ → Result Header HeaderError → Type 0
+Fine n (Ok d) = d .length ≡ n
+Fine n (Err error.Mark) = ⊥
+Fine n (Err (error.End _)) = ⊥
+Fine n (Err (error.Byte _)) = ⊥
+Fine n (Err (error.Number _)) = Unit {0}
 
-pass-fine : (f : Field) (v : ℕ) → Pass Fine f v
-pass-fine f v n bs r p = cond-both (allowed f (sat f v)) (Ok (kept f (sat f v) r)) (Err (error.Number n)) (λ x. Fine (on n bs x)) (λ _. p) (λ _. tt)
+pass-fine : (k : ℕ) (f : Field) (v : ℕ) → Pass (Fine k) f v
+pass-fine k f v n bs r p = cond-both (allowed f (sat f v)) (Ok (kept f (sat f v) r)) (Err (error.Number n)) (λ x. Fine k (on n bs x)) (λ _. p) (λ _. tt)
 
-pub fine : (mark w h m : ℕ) {front : List ℕ} (rest : List ℕ) → IsHeader mark w h m front → Fine (headerOf mark (front ++ rest))
-fine mark w h m rest is = carried Fine mark w h m rest is (pass-fine Width w) (pass-fine Height h) (pass-fine Maxval m) tt
+pub fine : (mark w h m : ℕ) {front : List ℕ} (rest : List ℕ) → IsHeader mark w h m front → Fine (length front) (headerOf mark (front ++ rest))
+fine mark w h m {front} rest is =
+    carried (Fine (length front)) mark w h m rest is (pass-fine (length front) Width w) (pass-fine (length front) Height h) (pass-fine (length front) Maxval m) refl
+
+-- a number that is not allowed is refused at the white byte behind it
+bad : (f : Field) (v n : ℕ) (r : Reader) → (Allowed f v → ⊥) → judged n f (sat f v) r ≡ Err (error.Number n)
+bad f v n r a =
+    cond-both (allowed f (sat f v)) (Ok (kept f (sat f v) r)) (Err (error.Number n)) (λ x. x ≡ Err (error.Number n))
+    (λ t.
+    let c = and-parts (leb 1 (sat f v)) (leb (sat f v) (limitOf f)) t in
+    let l : 1 ≤ sat f v = leb-true 1 (sat f v) (c .0) in
+    let u : sat f v ≤ limitOf f = leb-true (sat f v) (limitOf f) (c .1) in
+    absurd (a (omega arith, omega arith)))
+    (λ _. refl)
+
+judged-bad : (f : Field) (v w h m n k : ℕ) {b : ℕ} (rest : List ℕ) → (Allowed f v → ⊥) → grammar.White b → n ≡ k → run (at (Number f (sat f v)) w h m) n (b ∷ rest) ≡ Err (error.Number k)
+judged-bad f v w h m n k rest a x e =
+    white-number f w h m (sat f v) n x rest ∙ ap (on n rest) (bad f v n (at (Number f (sat f v)) w h m) a) ∙ ap (λ i. Err (error.Number i)) e
+
+pub spoils : (mark : ℕ) {front : List ℕ} (rest : List ℕ) → Spoiled mark front → headerOf mark (front ++ rest) ≡ Err (error.Number (length front - 1))
+spoils mark rest (at-width {w} {a} {x} {e} ga nx wrong we) =
+    let n = length (80 ∷ mark ∷ (a ++ (x ++ (e ∷ [])))) - 1 in
+    let l : 2 + length a + length x ≡ n = simp length-append (omega arith) in
+    let i : (a ++ (x ++ (e ∷ []))) ++ rest ≡ a ++ (x ++ (e ∷ rest)) = simp append-assoc in
+    marked mark ((a ++ (x ++ (e ∷ []))) ++ rest) ∙ ap (run start 2) i
+    ∙ behind-mark (λ y. y ≡ Err (error.Number n)) w 2 ga nx (e ∷ rest) (judged-bad Width w 0 0 0 (2 + length a + length x) n rest wrong we l)
+spoils mark rest (at-height {w} {h} {a} {x} {b} {y} {e} ga nx p gb ny wrong we) =
+    let n = length (80 ∷ mark ∷ (a ++ (x ++ (b ++ (y ++ (e ∷ [])))))) - 1 in
+    let z = Err (error.Number n) in
+    let l : 2 + length a + length x + length b + length y ≡ n = simp length-append (omega arith) in
+    let i : (a ++ (x ++ (b ++ (y ++ (e ∷ []))))) ++ rest ≡ a ++ (x ++ (b ++ (y ++ (e ∷ rest)))) = simp append-assoc in
+    marked mark ((a ++ (x ++ (b ++ (y ++ (e ∷ []))))) ++ rest) ∙ ap (run start 2) i
+    ∙ behind-mark (λ r. r ≡ z) w 2 ga nx (b ++ (y ++ (e ∷ rest)))
+    (behind-width (λ r. r ≡ z) w h (2 + length a + length x) gb ny (passes z Width w p) (e ∷ rest)
+    (judged-bad Height h (sat Width w) 0 0 (2 + length a + length x + length b + length y) n rest wrong we l))
+spoils mark rest (at-maxval {w} {h} {m} {a} {x} {b} {y} {c} {z} {e} ga nx p gb ny q gc nz wrong we) =
+    let n = length (80 ∷ mark ∷ (a ++ (x ++ (b ++ (y ++ (c ++ (z ++ (e ∷ [])))))))) - 1 in
+    let u = Err (error.Number n) in
+    let l : 2 + length a + length x + length b + length y + length c + length z ≡ n = simp length-append (omega arith) in
+    marked mark ((a ++ (x ++ (b ++ (y ++ (c ++ (z ++ (e ∷ []))))))) ++ rest) ∙ ap (run start 2) (bracketed a x b y c z (e ∷ []) rest)
+    ∙ behind-mark (λ r. r ≡ u) w 2 ga nx (b ++ (y ++ (c ++ (z ++ (e ∷ rest)))))
+    (behind-width (λ r. r ≡ u) w h (2 + length a + length x) gb ny (passes u Width w p) (c ++ (z ++ (e ∷ rest)))
+    (behind-height (λ r. r ≡ u) (sat Width w) h m (2 + length a + length x + length b + length y) gc nz (passes u Height h q) (e ∷ rest)
+    (judged-bad Maxval m (sat Width w) (sat Height h) 0 (2 + length a + length x + length b + length y + length c + length z) n rest wrong we l)))

@@ -71,6 +71,11 @@ record InNumber (f : Field) (w h v : ℕ) (xs : List ℕ) : Type 0 where
   stored : v ≡ sat f value
   whole : xs ≡ front ++ (gap ++ ds)
 
+-- the mark and then xs begin a header that goes on behind them
+pub record Fronting (mark : ℕ) (xs : List ℕ) : Type 0 where
+  pub begins : Begins mark (80 ∷ mark ∷ xs)
+  pub more : 0 < length (begins .rest)
+
 module _ (mark : ℕ) where
   record Whole (w h m : ℕ) (xs : List ℕ) : Type 0 where
     is : IsHeader mark w h m (80 ∷ mark ∷ xs)
@@ -118,34 +123,38 @@ module _ (mark : ℕ) where
       }
 
   -- what begins a header with more bytes begins one
-  shorter : (xs ys zs : List ℕ) → zs ≡ xs ++ ys → Begins mark (80 ∷ mark ∷ zs) → Begins mark (80 ∷ mark ∷ xs)
-  shorter xs ys zs e d =
+  shorter : (xs : List ℕ) (y : ℕ) (ys zs : List ℕ) → zs ≡ xs ++ (y ∷ ys) → Begins mark (80 ∷ mark ∷ zs) → Fronting mark xs
+  shorter xs y ys zs e d =
       record {
-        rest = ys ++ d .rest;
-        width = d .width;
-        height = d .height;
-        maxval = d .maxval;
-        is = subst (λ l. IsHeader mark (d .width) (d .height) (d .maxval) (80 ∷ mark ∷ l)) (ap (λ l. l ++ d .rest) e ∙ append-assoc xs ys (d .rest)) (d .is);
+        begins =
+            record {
+              rest = y ∷ (ys ++ d .rest);
+              width = d .width;
+              height = d .height;
+              maxval = d .maxval;
+              is =
+                  subst (λ l. IsHeader mark (d .width) (d .height) (d .maxval) (80 ∷ mark ∷ l)) (ap (λ l. l ++ d .rest) e ∙ append-assoc xs (y ∷ ys) (d .rest)) (d .is);
+            };
+        more = omega arith;
       }
 
   -- what a reader has taken begins a header
-  complete : (s : State) (w h m : ℕ) (xs : List ℕ) → Behind s w h m xs → Begins mark (80 ∷ mark ∷ xs)
-  complete Marked w h m xs e =
-      shorter xs (10 ∷ 49 ∷ 10 ∷ []) (10 ∷ 49 ∷ 10 ∷ []) (ap (λ l. l ++ (10 ∷ 49 ∷ 10 ∷ [])) (sym e))
+  complete : (s : State) (w h m : ℕ) (xs : List ℕ) → (s ≡ Done → ⊥) → Behind s w h m xs → Fronting mark xs
+  complete Marked w h m xs _ e =
+      shorter xs 10 (49 ∷ 10 ∷ []) (10 ∷ 49 ∷ 10 ∷ []) (ap (λ l. l ++ (10 ∷ 49 ∷ 10 ∷ [])) (sym e))
       (begun (first {w = w} {h = h}) (grammar.gap grammar.newline grammar.none) (number-one 49 (omega arith) (omega arith)) grammar.newline)
-  complete (Gap f) w h m xs i =
-      shorter xs (49 ∷ 10 ∷ []) (i .front ++ (i .gap ++ (49 ∷ 10 ∷ []))) (sym (ap (λ l. l ++ (49 ∷ 10 ∷ [])) (i .whole) ∙ append-assoc (i .front) (i .gap) (49 ∷ 10 ∷ [])))
+  complete (Gap f) w h m xs _ i =
+      shorter xs 49 (10 ∷ []) (i .front ++ (i .gap ++ (49 ∷ 10 ∷ []))) (sym (ap (λ l. l ++ (49 ∷ 10 ∷ [])) (i .whole) ∙ append-assoc (i .front) (i .gap) (49 ∷ 10 ∷ [])))
       (begun (i .before) (i .is) (number-one 49 (omega arith) (omega arith)) grammar.newline)
-  complete (Comment f) w h m xs i =
+  complete (Comment f) w h m xs _ i =
       let e : i .front ++ ((i .gap ++ (35 ∷ (i .text ++ (10 ∷ [])))) ++ (49 ∷ 10 ∷ [])) ≡ (i .front ++ (i .gap ++ (35 ∷ i .text))) ++ (10 ∷ 49 ∷ 10 ∷ []) = simp append-assoc in
-      shorter xs (10 ∷ 49 ∷ 10 ∷ []) (i .front ++ ((i .gap ++ (35 ∷ (i .text ++ (10 ∷ [])))) ++ (49 ∷ 10 ∷ []))) (e ∙ ap (λ l. l ++ (10 ∷ 49 ∷ 10 ∷ [])) (sym (i .whole)))
+      shorter xs 10 (49 ∷ 10 ∷ []) (i .front ++ ((i .gap ++ (35 ∷ (i .text ++ (10 ∷ [])))) ++ (49 ∷ 10 ∷ []))) (e ∙ ap (λ l. l ++ (10 ∷ 49 ∷ 10 ∷ [])) (sym (i .whole)))
       (begun (i .before) (gap-comment (i .text) (i .is) (i .says)) (number-one 49 (omega arith) (omega arith)) grammar.newline)
-  complete (Number f v) w h m xs i =
+  complete (Number f v) w h m xs _ i =
       let e : i .front ++ (i .gap ++ (i .ds ++ (10 ∷ []))) ≡ (i .front ++ (i .gap ++ i .ds)) ++ (10 ∷ []) = simp append-assoc in
-      shorter xs (10 ∷ []) (i .front ++ (i .gap ++ (i .ds ++ (10 ∷ [])))) (e ∙ ap (λ l. l ++ (10 ∷ [])) (sym (i .whole)))
+      shorter xs 10 [] (i .front ++ (i .gap ++ (i .ds ++ (10 ∷ [])))) (e ∙ ap (λ l. l ++ (10 ∷ [])) (sym (i .whole)))
       (begun (i .before) (i .is) (i .number) grammar.newline)
-  complete Done w h m xs i =
-      record { rest = []; width = w; height = h; maxval = m; is = subst (λ l. IsHeader mark w h m (80 ∷ mark ∷ l)) (sym (append-nil xs)) (i .is) }
+  complete Done w h m xs live i = absurd (live refl)
 
   -- a number that is not allowed
   spoiled : {f : Field} {w h v b : ℕ} {front g ds : List ℕ} → Before f w h front → Good f w h → grammar.Gap g → grammar.Number v ds → (Allowed f v → ⊥) → grammar.White b
@@ -341,7 +350,7 @@ pub record Stopped (e : HeaderError) (p : ℕ) (bs : List ℕ) : Type 0 where
 
 pub record Misread (mark p : ℕ) (bs : List ℕ) : Type 0 where
   pub stopped : Stopped (error.Byte p) p bs
-  pub begins : Begins mark (80 ∷ mark ∷ stopped .front)
+  pub before : Fronting mark (stopped .front)
 
 pub record Misjudged (mark p : ℕ) (bs : List ℕ) : Type 0 where
   pub stopped : Stopped (error.Number p) p bs
@@ -352,7 +361,7 @@ pub record Misjudged (mark p : ℕ) (bs : List ℕ) : Type 0 where
 abbrev pub Out : ℕ → List ℕ → Result Header HeaderError → Type 0
 Out mark bs (Ok d) = Took mark bs d
 Out mark bs (Err error.Mark) = ⊥
-Out mark bs (Err (error.End p)) = (p ≡ 2 + length bs) × Begins mark (80 ∷ mark ∷ bs)
+Out mark bs (Err (error.End p)) = (p ≡ 2 + length bs) × Fronting mark bs
 Out mark bs (Err (error.Byte p)) = Misread mark p bs
 Out mark bs (Err (error.Number p)) = Misjudged mark p bs
 
@@ -360,6 +369,7 @@ Out mark bs (Err (error.Number p)) = Misjudged mark p bs
 record Reached (mark : ℕ) (r : Reader) (xs : List ℕ) : Type 0 where
   goes : (cs : List ℕ) → run start 2 (xs ++ cs) ≡ run r (2 + length xs) cs
   is : Behind mark (r .state) (r .width) (r .height) (r .maxval) xs
+  live : r .state ≡ Done → ⊥
 
 module _ (mark : ℕ) (r : Reader) (xs : List ℕ) (b : ℕ) (bs : List ℕ) (d : Reached mark r xs) where
   goes-on : (x : Result Reader HeaderError) → next (2 + length xs) (r .state) (classOf b) r ≡ x → (cs : List ℕ) → run start 2 ((xs ++ (b ∷ [])) ++ cs) ≡ on (2 + length xs) cs x
@@ -380,7 +390,7 @@ module _ (mark : ℕ) (r : Reader) (xs : List ℕ) (b : ℕ) (bs : List ℕ) (d 
   turn (Err error.Mark) e t go = absurd t
   turn (Err (error.End _)) e t go = absurd t
   turn (Err (error.Byte q)) e t go =
-      record { stopped = stopped (error.Byte q) q t e; begins = complete mark (r .state) (r .width) (r .height) (r .maxval) xs (d .is) }
+      record { stopped = stopped (error.Byte q) q t e; before = complete mark (r .state) (r .width) (r .height) (r .maxval) xs (d .live) (d .is) }
   turn (Err (error.Number q)) e t go = record { stopped = stopped (error.Number q) q (t .0) e; begins = t .1; spoiled = t .2 }
   turn (Ok s) e t go = ⊎-elim here on-and-on (done (s .state))
     where
@@ -396,15 +406,15 @@ module _ (mark : ℕ) (r : Reader) (xs : List ℕ) (b : ℕ) (bs : List ℕ) (d 
           λ cs. not-ended (s .state) s (2 + length xs + 1) (run s (2 + length xs + 1) cs) n ∙ ap (λ k. run s k cs) longer-by in
           subst (Out mark (xs ++ (b ∷ bs))) (sym (u bs))
           (subst (λ l. Out mark l (run s (2 + length (xs ++ (b ∷ []))) bs)) (append-assoc xs (b ∷ []) bs)
-          (go s (record { goes = λ cs. goes-on (Ok s) e cs ∙ u cs; is = t })))
+          (go s (record { goes = λ cs. goes-on (Ok s) e cs ∙ u cs; is = t; live = n })))
 
 follow : (mark : ℕ) (bs xs : List ℕ) (r : Reader) → Reached mark r xs → Out mark (xs ++ bs) (run r (2 + length xs) bs)
 unfolding run
 follow mark [] xs r d =
-    (ap (λ l. 2 + length l) (sym (append-nil xs)), subst (λ l. Begins mark (80 ∷ mark ∷ l)) (sym (append-nil xs)) (complete mark (r .state) (r .width) (r .height) (r .maxval) xs (d .is)))
+    (ap (λ l. 2 + length l) (sym (append-nil xs)), subst (Fronting mark) (sym (append-nil xs)) (complete mark (r .state) (r .width) (r .height) (r .maxval) xs (d .live) (d .is)))
 follow mark (b ∷ bs) xs r d =
     turn mark r xs b bs d (next (2 + length xs) (r .state) (classOf b) r) refl
     (step mark (r .state) (r .width) (r .height) (r .maxval) (2 + length xs) b xs (classOf b) (class b) (d .is)) (λ s. follow mark bs (xs ++ (b ∷ [])) s)
 
 pub out : (mark : ℕ) (bs : List ℕ) → Out mark bs (run start 2 bs)
-out mark bs = follow mark bs [] start (record { goes = λ cs. refl; is = refl })
+out mark bs = follow mark bs [] start (record { goes = λ cs. refl; is = refl; live = λ e. let z : _≡_ {A = ℕ} 0 1 = cc in omega arith })

@@ -53,18 +53,24 @@ pub data Spoiled (mark : ℕ) : List ℕ → Type 0 where
       → Gap c → grammar.Number m z → (Allowed Maxval m → ⊥) → White e
       → Spoiled mark (80 ∷ mark ∷ (a ++ (x ++ (b ++ (y ++ (c ++ (z ++ (e ∷ []))))))))
 
+-- the bytes are the front of a header that goes on behind them, and no number in them is refused
+pub record Unended (mark : ℕ) (bytes : List ℕ) : Type 0 where
+  pub begins : Begins mark bytes
+  pub more : 0 < length (begins .rest)
+  pub clean : (n : ℕ) → Spoiled mark (take n bytes) → ⊥
+
 -- why a header is refused
 abbrev pub Why : ℕ → List ℕ → HeaderError → Type 0
 -- there are two bytes, and they are not the mark
 Why mark bytes Mark = (2 ≤ length bytes) × (take 2 bytes ≡ 80 ∷ mark ∷ [] → ⊥)
 -- the bytes end at this place, in the mark or in what may still become a header
-Why mark bytes (End p) = (p ≡ length bytes) × (2 ≤ p → Begins mark bytes)
--- up to this byte the bytes may become a header, and with it none, whatever its numbers
-Why mark bytes (Byte p) = (p < length bytes) × Begins mark (take p bytes) × (Begins mark (take (p + 1) bytes) → ⊥)
--- this byte is the white byte behind the first number that is not allowed
+Why mark bytes (End p) = (p ≡ length bytes) × (2 ≤ p → Unended mark bytes)
+-- before this byte the bytes may still become a header, and with it none, whatever its numbers
+Why mark bytes (Byte p) = (2 ≤ p) × (p < length bytes) × Unended mark (take p bytes) × (Begins mark (take (p + 1) bytes) → ⊥)
+-- this is the white byte behind the first number that is not allowed; the bytes begin a header, but for that
 Why mark bytes (Number p) = (p < length bytes) × Begins mark (take (p + 1) bytes) × Spoiled mark (take (p + 1) bytes)
 
--- a refusal is for a reason, and unless the bytes only ended, no further ones make an allowed header of them
+-- a header is refused exactly for its reason; and unless the bytes only ended, no further ones make an allowed header of them
 pub record Refuses (mark : ℕ) (bytes : List ℕ) (r : Result Header HeaderError) : Type 0 where
-  pub why : (e : HeaderError) → r ≡ Err e → Why mark bytes e
+  pub exactly : (e : HeaderError) → (r ≡ Err e → Why mark bytes e) × (Why mark bytes e → r ≡ Err e)
   pub final : (e : HeaderError) → r ≡ Err e → (numberOf e ≡ 2 → ⊥) → BeginsAllowed mark bytes → ⊥
