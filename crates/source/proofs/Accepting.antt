@@ -1,6 +1,6 @@
 -- What the grammar has, the reader accepts, or refuses for a number.
 use mathlib.Core.Path.{_≡_, refl, sym, ap, _∙_, subst}
-use mathlib.Core.Bool.{true, cond, _&&_}
+use mathlib.Core.Bool.{true}
 use mathlib.Core.List.{List, [], _∷_, _++_, append-assoc}
 use Prim.Native.Nat.{ℕ, suc, _+_, _-_, _*_, _≤_, min}
 use native.Mathlib.Omega.{arith}
@@ -18,7 +18,7 @@ use Rattle.source.specs.declared.reader.Class.the-variants.{Newline, White, Ha
 use Rattle.source.specs.declared.reader.Field.{Field}
 use Rattle.source.specs.declared.reader.Field.the-variants.{Width, Height, Maxval}
 use Rattle.source.specs.declared.reader.State.{State}
-use Rattle.source.specs.declared.reader.State.the-variants.{Marked, Gap, Comment, Number, Done}
+use Rattle.source.specs.declared.reader.State.the-variants.{Marked, Gap, Comment, Number}
 use Rattle.source.specs.declared.reader.Reader.{Reader}
 use Rattle.source.specs.Header.{allowed, classOf, headerOf, judged, kept, longer, next, run, start, to}
 use Rattle.source.specs.Grammar as grammar

@@ -1,9 +1,8 @@
 -- What the bytes are that a reader has taken.
 use mathlib.Core.Path.{_≡_, refl, sym, ap, _∙_, subst}
-use mathlib.Core.Bool.{Bool, true, false, cond, _&&_}
 use mathlib.Core.List.{List, [], _∷_, _++_, append-assoc, append-nil}
 use mathlib.Core.Logic.{_⊎_, inl, inr, ⊎-elim}
-use Prim.Native.Nat.{ℕ, suc, _+_, _-_, _*_, _<_, _≤_, min}
+use Prim.Native.Nat.{ℕ, _+_, _-_, _*_, _<_, _≤_}
 use native.Mathlib.Omega.{arith}
 use lib.Dec.{leb}
 use lib.ListN.{length, length-append}
@@ -19,7 +18,7 @@ use Rattle.source.specs.declared.reader.Field.the-variants.{Width, Height, Max
 use Rattle.source.specs.declared.reader.State.{State}
 use Rattle.source.specs.declared.reader.State.the-variants.{Marked, Gap, Comment, Number, Done}
 use Rattle.source.specs.declared.reader.Reader.{Reader}
-use Rattle.source.specs.Header.{allowed, classOf, ended, judged, kept, longer, next, run, start}
+use Rattle.source.specs.Header.{allowed, classOf, judged, kept, longer, next, run, start}
 use Rattle.source.specs.Grammar as grammar
 use Rattle.source.specs.Grammar.{IsHeader, Text}
 use Rattle.source.specs.Limits.{Allowed, limitOf}
@@ -72,7 +71,7 @@ record InNumber (f : Field) (w h v : ℕ) (xs : List ℕ) : Type 0 where
   whole : xs ≡ front ++ (gap ++ ds)
 
 -- the mark and then xs begin a header that goes on behind them
-pub record Fronting (mark : ℕ) (xs : List ℕ) : Type 0 where
+pub record Partway (mark : ℕ) (xs : List ℕ) : Type 0 where
   pub begins : Begins mark (80 ∷ mark ∷ xs)
   pub more : 0 < length (begins .rest)
 
@@ -123,7 +122,7 @@ module _ (mark : ℕ) where
       }
 
   -- what begins a header with more bytes begins one
-  shorter : (xs : List ℕ) (y : ℕ) (ys zs : List ℕ) → zs ≡ xs ++ (y ∷ ys) → Begins mark (80 ∷ mark ∷ zs) → Fronting mark xs
+  shorter : (xs : List ℕ) (y : ℕ) (ys zs : List ℕ) → zs ≡ xs ++ (y ∷ ys) → Begins mark (80 ∷ mark ∷ zs) → Partway mark xs
   shorter xs y ys zs e d =
       record {
         begins =
@@ -139,7 +138,7 @@ module _ (mark : ℕ) where
       }
 
   -- what a reader has taken begins a header
-  complete : (s : State) (w h m : ℕ) (xs : List ℕ) → (s ≡ Done → ⊥) → Behind s w h m xs → Fronting mark xs
+  complete : (s : State) (w h m : ℕ) (xs : List ℕ) → (s ≡ Done → ⊥) → Behind s w h m xs → Partway mark xs
   complete Marked w h m xs _ e =
       shorter xs 10 (49 ∷ 10 ∷ []) (10 ∷ 49 ∷ 10 ∷ []) (ap (λ l. l ++ (10 ∷ 49 ∷ 10 ∷ [])) (sym e))
       (begun (first {w = w} {h = h}) (grammar.gap grammar.newline grammar.none) (number-one 49 (omega arith) (omega arith)) grammar.newline)
@@ -350,7 +349,7 @@ pub record Stopped (e : HeaderError) (p : ℕ) (bs : List ℕ) : Type 0 where
 
 pub record Misread (mark p : ℕ) (bs : List ℕ) : Type 0 where
   pub stopped : Stopped (error.Byte p) p bs
-  pub before : Fronting mark (stopped .front)
+  pub before : Partway mark (stopped .front)
 
 pub record Misjudged (mark p : ℕ) (bs : List ℕ) : Type 0 where
   pub stopped : Stopped (error.Number p) p bs
@@ -361,7 +360,7 @@ pub record Misjudged (mark p : ℕ) (bs : List ℕ) : Type 0 where
 abbrev pub Out : ℕ → List ℕ → Result Header HeaderError → Type 0
 Out mark bs (Ok d) = Took mark bs d
 Out mark bs (Err error.Mark) = ⊥
-Out mark bs (Err (error.End p)) = (p ≡ 2 + length bs) × Fronting mark bs
+Out mark bs (Err (error.End p)) = (p ≡ 2 + length bs) × Partway mark bs
 Out mark bs (Err (error.Byte p)) = Misread mark p bs
 Out mark bs (Err (error.Number p)) = Misjudged mark p bs
 
@@ -411,7 +410,7 @@ module _ (mark : ℕ) (r : Reader) (xs : List ℕ) (b : ℕ) (bs : List ℕ) (d 
 follow : (mark : ℕ) (bs xs : List ℕ) (r : Reader) → Reached mark r xs → Out mark (xs ++ bs) (run r (2 + length xs) bs)
 unfolding run
 follow mark [] xs r d =
-    (ap (λ l. 2 + length l) (sym (append-nil xs)), subst (Fronting mark) (sym (append-nil xs)) (complete mark (r .state) (r .width) (r .height) (r .maxval) xs (d .live) (d .is)))
+    (ap (λ l. 2 + length l) (sym (append-nil xs)), subst (Partway mark) (sym (append-nil xs)) (complete mark (r .state) (r .width) (r .height) (r .maxval) xs (d .live) (d .is)))
 follow mark (b ∷ bs) xs r d =
     turn mark r xs b bs d (next (2 + length xs) (r .state) (classOf b) r) refl
     (step mark (r .state) (r .width) (r .height) (r .maxval) (2 + length xs) b xs (classOf b) (class b) (d .is)) (λ s. follow mark bs (xs ++ (b ∷ [])) s)

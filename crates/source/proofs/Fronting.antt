@@ -3,7 +3,7 @@ use mathlib.Core.Path.{_≡_, refl, sym, ap, _∙_, subst}
 use mathlib.Core.List.{List, [], _∷_, _++_, map}
 use Prim.Native.Nat.{ℕ, zero, suc, _+_, _-_, _<_, _≤_}
 use native.Mathlib.Omega.{arith}
-use native.Mathlib.Nat.{add-zero}
+use native.Mathlib.Nat.{add-zero, zero-add}
 use lib.ListN.{length, getD, take}
 use Rattle.std.specs.Iters.{counting}
 use Rattle.std.specs.declared.result.Result.{Result}
@@ -14,7 +14,7 @@ use Rattle.store.specs.declared.lack.Lack.{Lack}
 use Rattle.store.specs.declared.lack.Lack.the-variants.{Missing, Unread}
 use Rattle.store.specs.Cells.{Cell, byte, missing, unread}
 use Rattle.store.specs.Reads.{answer, before, filled, instead, placeOf, value}
-use Rattle.source.specs.Front.{available, more}
+use Rattle.source.specs.Front.{FirstLack, HasByte, available, more}
 
 -- xs are the n places from p on, all bytes
 record All (f : ℕ → Cell) (p n : ℕ) (xs : List ℕ) : Type 0 where
@@ -108,4 +108,40 @@ front-err f m n x part old rest e h l p =
       count = sym (sym (ap length b) ∙ z);
       bytes = take-at part rest n (ap length a ∙ z) ∙ a ∙ b;
       within = omega (arith, s .within);
+    }
+
+-- the bytes that are available end at the first place that has none
+record Run (f : ℕ → Cell) (p n : ℕ) (xs : List ℕ) : Type 0 where
+  within : length xs ≤ n
+  bytes : (k : ℕ) → k < length xs → HasByte (f (p + k))
+  lacks : length xs < n → HasByte (f (p + length xs)) → ⊥
+
+run-here : (f : ℕ → Cell) (p n : ℕ) → (HasByte (f p) → ⊥) → Run f p n []
+run-here f p n h = record { within = omega arith; bytes = λ k l. absurd (omega arith); lacks = λ _ b. h (subst (λ q. HasByte (f q)) (add-zero p) b) }
+
+bytes-more : (f : ℕ → Cell) (p n b : ℕ) (xs : List ℕ) → byte b ≡ f p → Run f (p + 1) n xs → (k : ℕ) → k < suc (length xs) → HasByte (f (p + k))
+bytes-more f p n b xs e r zero l = (b, ap f (add-zero p) ∙ sym e)
+bytes-more f p n b xs e r (suc k) l =
+    let q : p + 1 + k ≡ p + suc k = omega arith in
+    subst (λ q. HasByte (f q)) q (r .bytes k (omega arith))
+
+run-more : (f : ℕ → Cell) (p n : ℕ) (x : Cell) (xs : List ℕ) → x ≡ f p → Run f (p + 1) n xs → Run f p (suc n) (more x xs)
+run-more f p n (byte b) xs e r =
+    let q : p + suc (length xs) ≡ p + 1 + length xs = omega arith in
+    record { within = omega (arith, r .within); bytes = bytes-more f p n b xs e r; lacks = λ l h. r .lacks (omega arith) (subst (λ q. HasByte (f q)) q h) }
+run-more f p n missing xs e r = run-here f p (suc n) (λ h. let i = h .1 in let z : _≡_ {A = ℕ} 0 1 = cc in omega arith)
+run-more f p n unread xs e r = run-here f p (suc n) (λ h. let i = h .1 in let z : _≡_ {A = ℕ} 0 1 = cc in omega arith)
+
+run-of : (f : ℕ → Cell) (p n : ℕ) → Run f p n (available f p n)
+unfolding available
+run-of f p zero = record { within = omega arith; bytes = λ k l. absurd (omega arith); lacks = λ l. absurd (omega arith) }
+run-of f p (suc n) = run-more f p n (f p) (available f (p + 1) n) refl (run-of f (p + 1) n)
+
+pub first-lack : (f : ℕ → Cell) (n p : ℕ) → p ≡ length (available f 0 n) → FirstLack f n p
+first-lack f n p e =
+    let r = run-of f 0 n in
+    record {
+      within = omega (arith, r .within);
+      bytes = λ k l. subst (λ q. HasByte (f q)) (zero-add k) (r .bytes k (omega arith));
+      lacks = λ l h. r .lacks (omega arith) (subst (λ q. HasByte (f q)) (e ∙ sym (zero-add (length (available f 0 n)))) h);
     }

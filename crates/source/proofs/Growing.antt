@@ -3,7 +3,7 @@ use mathlib.Core.Path.{_≡_, refl, sym, ap, _∙_, subst}
 use mathlib.Core.List.{List, [], _∷_, _++_, append-assoc}
 use Prim.Native.Nat.{ℕ, _+_, _-_, _*_, _≤_}
 use native.Mathlib.Omega.{arith}
-use lib.ListN.{length, length-append}
+use lib.ListN.{length-append}
 use Rattle.source.specs.Grammar.{Blank, Digits, Gap, Number, Text, White, worth, none, white, comment, gap}
 
 blank-append : {xs ys : List ℕ} → Blank xs → Blank ys → Blank (xs ++ ys)

@@ -1,9 +1,9 @@
 -- The laws of the header reader.
 use mathlib.Core.Path.{_≡_, refl, sym, ap, _∙_, subst}
-use mathlib.Core.Bool.{true, false, cond, _&&_}
+use mathlib.Core.Bool.{false, cond, _&&_}
 use mathlib.Core.List.{List, [], _∷_, _++_, append-assoc, append-nil}
 use mathlib.Core.Logic.{⊎-elim}
-use Prim.Native.Nat.{ℕ, suc, _+_, _-_, _<_, _≤_}
+use Prim.Native.Nat.{ℕ, _+_, _-_, _<_, _≤_}
 use native.Mathlib.Omega.{arith}
 use lib.Dec.{eqb}
 use lib.ListN.{length, length-append, take, drop}
@@ -14,12 +14,11 @@ use Rattle.std.specs.declared.result.Result.the-variants.{Ok, Err}
 use Rattle.source.specs.declared.header.Header.{Header}
 use Rattle.source.specs.declared.header.HeaderError.{HeaderError}
 use Rattle.source.specs.declared.header.HeaderError.the-variants.{Mark, End, Byte, Number}
-use Rattle.source.specs.declared.reader.Field.the-variants.{Width, Height, Maxval}
 use Rattle.source.specs.Header.{headerOf, run, start}
 use Rattle.source.specs.Grammar.{IsHeader}
 use Rattle.source.specs.Reading.{Begins, BeginsAllowed, Exact, Refuses, Spoiled, Starts, Unended, Why, numberOf}
 use Rattle.source.proofs.Accepting.{Fine, accepts, fine, marked, spoils}
-use Rattle.source.proofs.Following.{Fronting, Misjudged, Misread, Out, Stopped, Took, out}
+use Rattle.source.proofs.Following.{Partway, Out, Stopped, Took, out}
 
 -- what is said of the bytes, by the answer; unless they only end, it stands whatever follows
 abbrev Told : ℕ → List ℕ → Result Header HeaderError → Type 0
@@ -72,7 +71,7 @@ module _ (mark : ℕ) (bs : List ℕ) where
     stays cs =
         marked mark (bs ++ cs) ∙ ap (λ l. run start 2 (l ++ cs)) (s .whole) ∙ ap (run start 2) (append-assoc (s .front ++ (s .last ∷ [])) (s .back) cs) ∙ s .always (s .back ++ cs)
 
-  unended : (p : ℕ) (s : Stopped (Byte p) p bs) → Fronting mark (s .front) → Unended mark (80 ∷ mark ∷ s .front)
+  unended : (p : ℕ) (s : Stopped (Byte p) p bs) → Partway mark (s .front) → Unended mark (80 ∷ mark ∷ s .front)
   unended p s f =
       record {
         begins = f .begins;

@@ -1,5 +1,4 @@
 -- The reader of a header: what each byte does, and what a run over the bytes answers.
-use mathlib.Core.Path.{_≡_}
 use mathlib.Core.List.{List, [], _∷_}
 use mathlib.Core.Bool.{Bool, cond, _||_, _&&_}
 use Prim.Native.Nat.{ℕ, _+_, _-_, _*_, min}

@@ -2,7 +2,7 @@ ghost use mathlib.Core.Path.{_≡_};
 ghost use Prim.Native.Nat.{_≤_};
 ghost use lib.ListN.{length, take};
 ghost use Rattle.store.specs.Cells.{capped};
-ghost use Rattle.source.specs.Front.{available};
+ghost use Rattle.source.specs.Front.{EndsAtLack, available};
 ghost use Rattle.source.specs.Header.{headerOf};
 ghost use Rattle.source.specs.Limits.{headerLimit};
 ghost use Rattle.source.specs.Reading.{Exact, Refuses};
@@ -33,6 +33,7 @@ pub fn read_header<S: Store>(store: &S, mark: u8) -> Result<Header, HeaderError>
     ensures automaton { λ r. ⌜ r ≡ headerOf mark (available (capped (S·Store .at (now (store .entry)))) 0 headerLimit) ⌝ }
     ensures grammar { λ r. ⌜ Exact mark (available (capped (S·Store .at (now (store .entry)))) 0 headerLimit) r ⌝ }
     ensures refused { λ r. ⌜ Refuses mark (available (capped (S·Store .at (now (store .entry)))) 0 headerLimit) r ⌝ }
+    ensures ended { λ r. ⌜ EndsAtLack (capped (S·Store .at (now (store .entry)))) r ⌝ }
 {
     let mut buffer = [0u8; HEADER_LIMIT];
     let n = front(store, &mut buffer);

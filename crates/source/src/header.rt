@@ -1,5 +1,5 @@
 ghost use mathlib.Core.Path.{_≡_};
-ghost use Prim.Native.Nat.{ℕ, _+_, _≤_};
+ghost use Prim.Native.Nat.{_+_, _≤_};
 ghost use lib.ListN.{length, take};
 ghost use Rattle.source.specs.Header.{headerOf, run, start};
 ghost use Rattle.source.specs.Limits.{headerLimit};
@@ -13,7 +13,7 @@ pub const HEADER_LIMIT: usize = 4096;
 /// What a header says, and how many bytes it has.
 #[derive(Clone, Copy, PartialEq, Eq, Debug)]
 pub struct Header {
-    /// The samples or pixels of a row.
+    /// The pixels of a row.
     pub width: u32,
     /// The rows.
     pub height: u32,
