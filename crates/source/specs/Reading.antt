@@ -30,7 +30,7 @@ pub record Starts (mark : ℕ) (bytes : List ℕ) (h : Header) : Type 0 where
 abbrev pub Exact : ℕ → List ℕ → Result Header HeaderError → Type 0
 Exact mark bytes r = (h : Header) → (r ≡ Ok h → Starts mark bytes h) × (Starts mark bytes h → r ≡ Ok h)
 
--- the bytes, and some behind them, are a header, whatever its numbers
+-- the bytes, with some or none behind them, are a header, whatever its numbers
 pub record Begins (mark : ℕ) (bytes : List ℕ) : Type 0 where
   pub rest : List ℕ
   pub width : ℕ
@@ -38,7 +38,7 @@ pub record Begins (mark : ℕ) (bytes : List ℕ) : Type 0 where
   pub maxval : ℕ
   pub is : IsHeader mark width height maxval (bytes ++ rest)
 
--- one with numbers that are allowed
+-- the same, and its numbers are allowed
 pub record BeginsAllowed (mark : ℕ) (bytes : List ℕ) : Type 0 where
   pub begins : Begins mark bytes
   pub allowed : Allowed Width (begins .width) × Allowed Height (begins .height) × Allowed Maxval (begins .maxval)
