@@ -1,3 +1,10 @@
+pub mod Running
+pub mod Fronting
+pub mod Classes
+pub mod Accepting
+pub mod Growing
+pub mod Following
+pub mod Laws
 pub mod Sampling
 pub mod Loads
 pub mod Rasters

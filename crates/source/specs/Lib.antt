@@ -1,3 +1,8 @@
+pub mod Limits
+pub mod Header
+pub mod Grammar
+pub mod Reading
+pub mod Front
 pub mod Raster
 pub mod Runs
 pub mod Files

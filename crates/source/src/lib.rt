@@ -1,13 +1,21 @@
 //! What a picture file holds, read from a store of bytes, and pictures in memory.
 
 mod file;
+mod front;
+mod header;
 mod memory;
 mod raster;
+mod reader;
 mod samples;
 
 pub use file::FilePicture;
 pub use file::FileRows;
 pub use file::FileSource;
+pub use front::read_header;
+pub use header::HEADER_LIMIT;
+pub use header::Header;
+pub use header::HeaderError;
+pub use header::parse;
 pub use memory::CodeSlice;
 pub use memory::Codes;
 pub use memory::MemorySource;
