@@ -73,6 +73,6 @@ pub first-on : {K : Type 0} (i : Image K) (left row a n len : ℕ) (e : Fault) �
 first-on i left row a n len e c h l =
     let f : firstFault (lined i (left + a) row) n ≡ Some e = fault-of-err _ _ h in
     let g : firstFault (lined i left row) (a + n) ≡ Some e =
-      first-append (lined i left row) a n ∙ ap (λ x. orElse x (firstFault (λ k. lined i left row (a + k)) n)) c
-      ∙ first-same (λ k. lined i left row (a + k)) (lined i (left + a) row) n (λ k m. sym (line-on i left row a k)) ∙ f in
+    first-append (lined i left row) a n ∙ ap (λ x. orElse x (firstFault (λ k. lined i left row (a + k)) n)) c
+    ∙ first-same (λ k. lined i left row (a + k)) (lined i (left + a) row) n (λ k m. sym (line-on i left row a k)) ∙ f in
     ap orFault (sym (first-stays (lined i left row) (a + n) len e l g))

@@ -145,3 +145,14 @@ first-lack f n p e =
       bytes = λ k l. subst (λ q. HasByte (f q)) (zero-add k) (r .bytes k (omega arith));
       lacks = λ l h. r .lacks (omega arith) (subst (λ q. HasByte (f q)) (e ∙ sym (zero-add (length (available f 0 n)))) h);
     }
+
+more-long : (x : Cell) (bs : List ℕ) (n : ℕ) → length bs ≤ n → length (more x bs) ≤ suc n
+more-long (byte b) bs n h = omega arith
+more-long missing bs n h = omega arith
+more-long unread bs n h = omega arith
+
+-- no more bytes than were asked for
+pub available-long : (f : ℕ → Cell) (p n : ℕ) → length (available f p n) ≤ n
+unfolding available
+available-long f p zero = omega arith
+available-long f p (suc n) = more-long (f p) (available f (p + 1) n) n (available-long f (p + 1) n)

@@ -44,22 +44,22 @@ module _ {K S : Type 0} (o : Ops K S) where
     place-of k = omega arith
 
     pub row-hole : (k c : ℕ) → c ≡ getD codes (row * s .width + left + k) 0 → acceptable o (s .maxval) c ≡ false
-      → lined (memoryImage o codes s source) left row k ≡ hole (faultAt source (left + k) row NoPixel)
+        → lined (memoryImage o codes s source) left row k ≡ hole (faultAt source (left + k) row NoPixel)
     row-hole k c e a =
-      ap (λ z. remembered o (s .maxval) (o .decode (getD codes z 0)) (faultAt source (left + k) row NoPixel)) (place-of k)
-      ∙ ap (λ z. remembered o (s .maxval) (o .decode z) (faultAt source (left + k) row NoPixel)) (sym e)
-      ∙ hole-of (s .maxval) (o .decode c) (faultAt source (left + k) row NoPixel) a
+        ap (λ z. remembered o (s .maxval) (o .decode (getD codes z 0)) (faultAt source (left + k) row NoPixel)) (place-of k)
+        ∙ ap (λ z. remembered o (s .maxval) (o .decode z) (faultAt source (left + k) row NoPixel)) (sym e)
+        ∙ hole-of (s .maxval) (o .decode c) (faultAt source (left + k) row NoPixel) a
 
     row-code : (k c : ℕ) → ((c : ℕ) (p : K) → o .decode c ≡ Some p → o .code p ≡ c) → c ≡ getD codes (row * s .width + left + k) 0 → acceptable o (s .maxval) c ≡ true
-      → coded o (lined (memoryImage o codes s source) left row k) ≡ Some c
+        → coded o (lined (memoryImage o codes s source) left row k) ≡ Some c
     row-code k c r e a =
-      ap (λ z. coded o (remembered o (s .maxval) (o .decode (getD codes z 0)) (faultAt source (left + k) row NoPixel))) (place-of k)
-      ∙ ap (λ z. coded o (remembered o (s .maxval) (o .decode z) (faultAt source (left + k) row NoPixel))) (sym e)
-      ∙ code-of (s .maxval) c (o .decode c) (faultAt source (left + k) row NoPixel) (r c) a
+        ap (λ z. coded o (remembered o (s .maxval) (o .decode (getD codes z 0)) (faultAt source (left + k) row NoPixel))) (place-of k)
+        ∙ ap (λ z. coded o (remembered o (s .maxval) (o .decode z) (faultAt source (left + k) row NoPixel))) (sym e)
+        ∙ code-of (s .maxval) c (o .decode c) (faultAt source (left + k) row NoPixel) (r c) a
 
     pub row-more : (k c : ℕ) (out : List ℕ) → ((c : ℕ) (p : K) → o .decode c ≡ Some p → o .code p ≡ c) → c ≡ getD codes (row * s .width + left + k) 0 → acceptable o (s .maxval) c ≡ true
-      → k < length out → Shown o (lined (memoryImage o codes s source) left row) k out → Shown o (lined (memoryImage o codes s source) left row) (k + 1) (set out k c)
+        → k < length out → Shown o (lined (memoryImage o codes s source) left row) k out → Shown o (lined (memoryImage o codes s source) left row) (k + 1) (set out k c)
     row-more k c out r e a l h =
-      below-more _ _
+        below-more _ _
         (λ j i. let ne : j ≢ k = omega arith in h j i ∙ ap Some (sym (getD-set-other out k j c 0 ne)))
         (row-code k c r e a ∙ ap Some (sym (getD-set-same out k c 0 l)))

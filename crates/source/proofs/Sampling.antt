@@ -19,9 +19,9 @@ use Rattle.source.specs.Raster.{sampleOf, samplesOf, under, codeOf}
 pub under-push : (m : ℕ) (xs : List ℕ) (x : ℕ) → under m xs ≡ true → x ≤ m → under m (xs ++ (x ∷ [])) ≡ true
 under-push m [] x u h = and-from (leb x m) true (le-leb x m h) refl
 under-push m (y ∷ ys) x u h =
-  let a : leb y m ≡ true = grind (arith, tells) in
-  let b : under m ys ≡ true = grind (arith, tells) in
-  and-from (leb y m) (under m (ys ++ (x ∷ []))) a (under-push m ys x b h)
+    let a : leb y m ≡ true = grind (arith, tells) in
+    let b : under m ys ≡ true = grind (arith, tells) in
+    and-from (leb y m) (under m (ys ++ (x ∷ []))) a (under-push m ys x b h)
 
 pub behind-push : (c : ℕ) (xs : List ℕ) (x : ℕ) → behind c (xs ++ (x ∷ [])) ≡ behind c xs * 65536 + x
 behind-push c [] x = refl
@@ -55,7 +55,7 @@ module _ (w : Bool) (byte : ℕ → ℕ) where
   -- one sample above maxval is enough
   pub code-none : {K S : Type 0} (o : Ops K S) (m k : ℕ) → k < o .depth → m < sampleOf w byte k → codeOf o w m byte ≡ None
   code-none o m k h l =
-    cond-false (under m (samplesOf w byte (o .depth))) _ _
+      cond-false (under m (samplesOf w byte (o .depth))) _ _
       (false-of (under m (samplesOf w byte (o .depth))) (λ e. let a = under-at m (samplesOf w byte (o .depth)) e k in omega (arith, samples-at (o .depth) k h)))
 
 pub under-of : (m : ℕ) (xs : List ℕ) → ((j : ℕ) → j < length xs → getD xs j 0 ≤ m) → under m xs ≡ true

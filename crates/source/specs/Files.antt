@@ -53,4 +53,5 @@ module _ {K S : Type 0} (o : Ops K S) where
     width = r .size .width;
     height = r .size .height;
     maxval = r .size .maxval;
-    at = λ x y. pixelAt at (r .size .maxval) (r .start + (y * r .size .width + x) * pixelBytes (r .size .maxval)) (faultAt (r .source) x y) }
+    at = λ x y. pixelAt at (r .size .maxval) (r .start + (y * r .size .width + x) * pixelBytes (r .size .maxval)) (faultAt (r .source) x y);
+  }

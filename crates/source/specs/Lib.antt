@@ -8,3 +8,4 @@ pub mod Runs
 pub mod Files
 pub mod Loading
 pub mod Memory
+pub mod Opening

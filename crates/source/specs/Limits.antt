@@ -1,5 +1,6 @@
 -- The limits of a header.
 use Prim.Native.Nat.{ℕ, _≤_}
+use Rattle.picture.specs.Limits.{largest}
 use Rattle.source.specs.declared.reader.Field.{Field}
 use Rattle.source.specs.declared.reader.Field.the-variants.{Width, Height, Maxval}
 
@@ -9,8 +10,8 @@ headerLimit = 4096
 
 -- the largest number that a field may be
 abbrev pub limitOf : Field → ℕ
-limitOf Width = 65535
-limitOf Height = 65535
+limitOf Width = largest
+limitOf Height = largest
 limitOf Maxval = 65535
 
 -- a field may be any number from 1 to its limit

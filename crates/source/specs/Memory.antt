@@ -41,12 +41,13 @@ module _ {K S : Type 0} (o : Ops K S) where
     width = s .width;
     height = s .height;
     maxval = s .maxval;
-    at = λ x y. remembered (s .maxval) (o .decode (getD codes (y * s .width + x) 0)) (faultAt source x y NoPixel) }
+    at = λ x y. remembered (s .maxval) (o .decode (getD codes (y * s .width + x) 0)) (faultAt source x y NoPixel);
+  }
 
   -- made of these numbers, or 5 where one is outside its limits or the codes are too few
   abbrev pub MemoryMade : {C : Type 0} → (C → List ℕ) → C → ℕ → ℕ → ℕ → ℕ → Result (MemorySource C K) (Refused C) → Type 0
   MemoryMade held c w h m n (Ok s) =
-    (s .codes ≡ c) × (s .size .width ≡ w) × (s .size .height ≡ h) × (s .size .maxval ≡ m) × (s .source ≡ n) × (s .count ≡ 0)
-    × ((leb n 255 && leb (w * h) (length (held c))) ≡ true)
+      (s .codes ≡ c) × (s .size .width ≡ w) × (s .size .height ≡ h) × (s .size .maxval ≡ m) × (s .source ≡ n) × (s .count ≡ 0)
+      × ((leb n 255 && leb (w * h) (length (held c))) ≡ true)
   MemoryMade held c w h m n (Err e) =
-    (e .back ≡ c) × (told (e .refusal) ≡ refused 5 []) × ((sizeable w h m && (leb n 255 && leb (w * h) (length (held c)))) ≡ false)
+      (e .back ≡ c) × (told (e .refusal) ≡ refused 5 []) × ((sizeable w h m && (leb n 255 && leb (w * h) (length (held c)))) ≡ false)

@@ -29,16 +29,16 @@ use store::Store;
 const RUN: usize = 1024;
 
 /// The bytes of so many pixels: a pixel has at most 6.
-const BLOCK: usize = 6144;
+pub(crate) const BLOCK: usize = 6144;
 
 /// The picture in a file, whose bytes a store has.
 #[derive(Drop)]
 pub struct FileSource<S, K> {
-    store: S,
-    raster: Raster,
-    count: u64,
-    block: [u8; BLOCK],
-    kind: PhantomData<K>,
+    pub(crate) store: S,
+    pub(crate) raster: Raster,
+    pub(crate) count: u64,
+    pub(crate) block: [u8; BLOCK],
+    pub(crate) kind: PhantomData<K>,
 }
 
 /// The pixels whose bytes could be read, and why there are no more.
@@ -64,11 +64,17 @@ fn read_pixels<S: Store>(store: &S, place: u64, step: usize, count: usize, block
     ensures { λ r. ⌜ Loaded (capped (S·Store .at (now (store .entry)))) place step count (now (block .exit)) (r .pixels) (r .lack) ⌝ }
 {
     match store.read(place, &mut block[0..count * step]) {
-        Ok(()) => Load { pixels: count, lack: None },
+        Ok(()) => Load {
+            pixels: count,
+            lack: None,
+        },
         Err(lack) => {
             let pixels = (lack.place() - place) as usize / step;
             let _ = store.read(place, &mut block[0..pixels * step]);
-            Load { pixels, lack: Some(cause_of(lack)) }
+            Load {
+                pixels,
+                lack: Some(cause_of(lack)),
+            }
         }
     }
 }
@@ -85,18 +91,38 @@ impl<S: Store, K: Kind> FileSource<S, K> {
         ensures raster { λ _. ⌜ now (self .exit) .raster ≡ now (self .entry) .raster ⌝ }
         ensures count { λ _. ⌜ now (self .exit) .count ≡ now (self .entry) .count ⌝ }
     {
-        let Raster { start, size, source } = self.raster;
+        let Raster {
+            start,
+            size,
+            source,
+        } = self.raster;
         let wide = size.maxval >= 256;
         let step = pixel_bytes::<K>(wide);
         let place = start + (row as u64 * size.width as u64 + left as u64) * step as u64;
-        let Load { pixels, lack } = read_pixels(&self.store, place, step, out.len(), &mut self.block);
+        let Load { pixels, lack } = read_pixels(
+            &self.store,
+            place,
+            step,
+            out.len(),
+            &mut self.block,
+        );
         let taken = decode::<K>(&self.block, wide, size.maxval, &mut out[0..pixels]);
         if taken < pixels {
-            return Err(Fault { cause: Cause::Above, source, column: left + taken as u32, row });
+            return Err(Fault {
+                cause: Cause::Above,
+                source,
+                column: left + taken as u32,
+                row,
+            });
         }
         match lack {
             None => Ok(()),
-            Some(cause) => Err(Fault { cause, source, column: left + taken as u32, row }),
+            Some(cause) => Err(Fault {
+                cause,
+                source,
+                column: left + taken as u32,
+                row,
+            }),
         }
     }
 }
@@ -105,7 +131,9 @@ pub impl<S: Store, K: Kind> Rows for FileSource<S, K> as FileRows {
     type Pixel = K;
 
     ghost view = { λ s. rasterImage (K·Kind .ops) (capped (S·Store .at (s .store))) (s .raster) };
+
     ghost ready = { λ _. Unit {0} };
+
     ghost same = { λ s t. (s .store ≡ t .store) × (s .raster ≡ t .raster) × (s .count ≡ t .count) };
 
     fn row(&mut self, left: u32, row: u32, out: &mut [u64]) -> Result<(), Fault> {
@@ -125,8 +153,11 @@ pub impl<S: Store, K: Kind> Picture for FileSource<S, K> as FilePicture {
     type Pixel = K;
 
     ghost model = { λ s. sourced (rasterImage (K·Kind .ops) (capped (S·Store .at (s .store))) (s .raster)) };
+
     ghost count = { λ s. s .count };
+
     ghost sound = { λ _. Unit {0} };
+
     ghost bare = { λ _. Unit {0} };
 
     fn size(&self) -> Size {

@@ -1,11 +1,14 @@
 ghost use mathlib.Core.Path.{_≡_};
 ghost use Prim.Native.Nat.{_+_, _≤_};
 ghost use lib.ListN.{length, take};
+ghost use mathlib.Core.List.{[]};
+ghost use Rattle.picture.specs.Refusals.{refused, told};
 ghost use Rattle.source.specs.Header.{headerOf, run, start};
 ghost use Rattle.source.specs.Limits.{headerLimit};
 ghost use Rattle.source.specs.Reading.{Exact, Refuses, numberOf};
 use crate::reader::Reader;
 use crate::reader::State;
+use picture::Refusal;
 
 /// A header lies within the first bytes of a file, at most so many.
 pub const HEADER_LIMIT: usize = 4096;
@@ -37,15 +40,15 @@ pub enum HeaderError {
 }
 
 impl HeaderError {
-    /// The refusal's number.
-    pub fn number(self) -> u8
-        ensures { λ r. ⌜ r ≡ numberOf self ⌝ }
+    /// The refusal of a file with such a header.
+    pub fn refusal(self) -> Refusal
+        ensures { λ r. ⌜ told r ≡ refused (numberOf self) [] ⌝ }
     {
         match self {
-            HeaderError::Mark => 1,
-            HeaderError::End { .. } => 2,
-            HeaderError::Byte { .. } => 3,
-            HeaderError::Number { .. } => 4,
+            HeaderError::Mark => Refusal::WrongMark,
+            HeaderError::End { .. } => Refusal::HeaderEnds,
+            HeaderError::Byte { .. } => Refusal::HeaderByte,
+            HeaderError::Number { .. } => Refusal::HeaderNumber,
         }
     }
 }

@@ -4,6 +4,7 @@ mod file;
 mod front;
 mod header;
 mod memory;
+mod open;
 mod raster;
 mod reader;
 mod samples;

@@ -45,7 +45,11 @@ pub impl<'a> Codes for CodeSlice<'a> as SliceCodes {
     }
 
     fn get(&self, index: usize) -> u64 {
-        if index < self.codes.len() { self.codes[index] } else { 0 }
+        if index < self.codes.len() {
+            self.codes[index]
+        } else {
+            0
+        }
     }
 }
 
@@ -76,16 +80,34 @@ fn is_pixel<K: Kind>(code: u64, maxval: u16) -> bool
 
 impl<C: Codes, K: Kind> MemorySource<C, K> {
     /// The picture of these codes, if its numbers are within their limits and the codes are enough.
-    pub fn new(codes: C, width: u32, height: u32, maxval: u32, number: u32) -> Result<MemorySource<C, K>, Refused<C>>
+    pub fn new(
+        codes: C,
+        width: u32,
+        height: u32,
+        maxval: u32,
+        number: u32,
+    ) -> Result<MemorySource<C, K>, Refused<C>>
         ensures { λ r. ⌜ MemoryMade (K·Kind .ops) (C·Codes .codes) codes width height maxval number r ⌝ }
     {
         let Ok(size) = Size::new(width, height, maxval) else {
-            return Err(Refused { refusal: Refusal::OutsideLimits, back: codes });
+            return Err(Refused {
+                refusal: Refusal::OutsideLimits,
+                back: codes,
+            });
         };
         if number > 255 || (width as usize * height as usize) > codes.len() {
-            return Err(Refused { refusal: Refusal::OutsideLimits, back: codes });
+            return Err(Refused {
+                refusal: Refusal::OutsideLimits,
+                back: codes,
+            });
         }
-        Ok(MemorySource { codes, size, source: number as u8, count: 0, kind: PhantomData })
+        Ok(MemorySource {
+            codes,
+            size,
+            source: number as u8,
+            count: 0,
+            kind: PhantomData,
+        })
     }
 }
 
@@ -93,7 +115,9 @@ pub impl<C: Codes, K: Kind> Rows for MemorySource<C, K> as MemoryRows {
     type Pixel = K;
 
     ghost view = { λ s. memoryImage (K·Kind .ops) (C·Codes .codes (s .codes)) (s .size) (s .source) };
+
     ghost ready = { λ _. Unit {0} };
+
     ghost same = { λ s t. s ≡ t };
 
     fn row(&mut self, left: u32, row: u32, out: &mut [u64]) -> Result<(), Fault> {
@@ -101,7 +125,12 @@ pub impl<C: Codes, K: Kind> Rows for MemorySource<C, K> as MemoryRows {
         for k in 0..out.len() {
             let code = self.codes.get(first + k);
             if !is_pixel::<K>(code, self.size.maxval) {
-                return Err(Fault { cause: Cause::NoPixel, source: self.source, column: left + k as u32, row });
+                return Err(Fault {
+                    cause: Cause::NoPixel,
+                    source: self.source,
+                    column: left + k as u32,
+                    row,
+                });
             }
             out[k] = code;
         }
@@ -113,8 +142,11 @@ pub impl<C: Codes, K: Kind> Picture for MemorySource<C, K> as MemoryPicture {
     type Pixel = K;
 
     ghost model = { λ s. sourced (memoryImage (K·Kind .ops) (C·Codes .codes (s .codes)) (s .size) (s .source)) };
+
     ghost count = { λ s. s .count };
+
     ghost sound = { λ _. Unit {0} };
+
     ghost bare = { λ _. Unit {0} };
 
     fn size(&self) -> Size {

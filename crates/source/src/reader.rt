@@ -2,9 +2,7 @@ ghost use mathlib.Core.Path.{_≡_};
 ghost use Rattle.source.specs.Header.{answered, classOf, judged, moved, next, start};
 ghost use Rattle.source.specs.Limits.{limitOf};
 use crate::header::HeaderError;
-
-/// A side is at most so long.
-const SIDE_LIMIT: u32 = 65_535;
+use picture::LIMIT;
 
 /// A sample is at most so large.
 const MAXVAL_LIMIT: u32 = 65_535;
@@ -72,7 +70,7 @@ impl Field {
         ensures { λ r. ⌜ r ≡ limitOf self ⌝ }
     {
         match self {
-            Field::Width | Field::Height => SIDE_LIMIT,
+            Field::Width | Field::Height => LIMIT,
             Field::Maxval => MAXVAL_LIMIT,
         }
     }

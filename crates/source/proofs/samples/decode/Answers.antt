@@ -14,30 +14,31 @@ use Rattle.source.proofs.samples.decode.Needs as need
 
 pub mul-k : need.mul-k
 mul-k g c =
-  let s = c .pixel-bytes-step .result in
-  let n = length (c .args .out .now) in
-  let e : s * n ≤ length (c .args .bytes .now) = omega (arith, mul-comm s n, ap (λ x. n * x) (c .pixel-bytes-step .ensures .value), c .pre) in
-  let h : c .loop-k .k * s + s ≤ length (c .args .bytes .now) = row-end (c .loop-k .k) s n (length (c .args .bytes .now)) (omega arith) e in
-  search needs
+    let s = c .pixel-bytes-step .result in
+    let n = length (c .args .out .now) in
+    let e : s * n ≤ length (c .args .bytes .now) = omega (arith, mul-comm s n, ap (λ x. n * x) (c .pixel-bytes-step .ensures .value), c .pre) in
+    let h : c .loop-k .k * s + s ≤ length (c .args .bytes .now) = row-end (c .loop-k .k) s n (length (c .args .bytes .now)) (omega arith) e in
+    search needs
 
 pub pixel-code-requires : need.pixel-code-requires
 pixel-code-requires g c κs =
-  let s = c .pixel-bytes-step .result in
-  let n = length (c .args .out .now) in
-  let e : s * n ≤ length (c .args .bytes .now) = omega (arith, mul-comm s n, ap (λ x. n * x) (c .pixel-bytes-step .ensures .value), c .pre) in
-  let h : c .loop-k .k * s + s ≤ length (c .args .bytes .now) = row-end (c .loop-k .k) s n (length (c .args .bytes .now)) (omega arith) e in
-  omega (arith, h, c .pixel-bytes-step .ensures .value)
+    let s = c .pixel-bytes-step .result in
+    let n = length (c .args .out .now) in
+    let e : s * n ≤ length (c .args .bytes .now) = omega (arith, mul-comm s n, ap (λ x. n * x) (c .pixel-bytes-step .ensures .value), c .pre) in
+    let h : c .loop-k .k * s + s ≤ length (c .args .bytes .now) = row-end (c .loop-k .k) s n (length (c .args .bytes .now)) (omega arith) e in
+    omega (arith, h, c .pixel-bytes-step .ensures .value)
 
 pub returns-in-None : need.returns-in-None
 returns-in-None g c =
-  record {
-    within = omega arith;
-    taken = c .loop-k .inv;
-    next = λ _. ap (λ s. codeOf (g .K·Kind .ops) (c .args .wide) (c .args .maxval) (from (c .args .bytes .now) (c .loop-k .k * s))) (sym (c .pixel-bytes-step .ensures .value)) ∙ sym (c .in-None .ensures tt) }
+    record {
+      within = omega arith;
+      taken = c .loop-k .inv;
+      next = λ _. ap (λ s. codeOf (g .K·Kind .ops) (c .args .wide) (c .args .maxval) (from (c .args .bytes .now) (c .loop-k .k * s))) (sym (c .pixel-bytes-step .ensures .value)) ∙ sym (c .in-None .ensures tt);
+    }
 
 pub loop-k-again : need.loop-k-again
 loop-k-again g c =
-  below-more _ _
+    below-more _ _
     (λ j h. let ne : j ≢ c .loop-k .k = omega arith in c .loop-k .inv j h ∙ ap Some (sym (getD-set-other _ (c .loop-k .k) j _ 0 ne)))
     (ap (λ s. codeOf (g .K·Kind .ops) (c .args .wide) (c .args .maxval) (from (c .args .bytes .now) (c .loop-k .k * s))) (sym (c .pixel-bytes-step .ensures .value)) ∙ sym (c .in-Some .ensures tt)
-      ∙ ap Some (sym (getD-set-same _ (c .loop-k .k) _ 0 (omega arith))))
+    ∙ ap Some (sym (getD-set-same _ (c .loop-k .k) _ 0 (omega arith))))

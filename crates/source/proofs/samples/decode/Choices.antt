@@ -7,4 +7,4 @@ use Rattle.source.proofs.samples.decode.Given as given
 
 abbrev pub Inv-loop-k : given.InvT-loop-k
 Inv-loop-k g l =
-  (j : ℕ) → j < l .k → codeOf (g .K·Kind .ops) (l .wide) (l .maxval) (from (l .bytes) (j * (g .K·Kind .ops .depth * sampleBytes (l .wide)))) ≡ Some (getD (l .out) j 0)
+    (j : ℕ) → j < l .k → codeOf (g .K·Kind .ops) (l .wide) (l .maxval) (from (l .bytes) (j * (g .K·Kind .ops .depth * sampleBytes (l .wide)))) ≡ Some (getD (l .out) j 0)
