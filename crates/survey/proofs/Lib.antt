@@ -1,0 +1,3 @@
+mod Onward
+mod Looking
+mod Accounts

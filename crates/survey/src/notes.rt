@@ -57,10 +57,9 @@ fn widen(range: Option<Range>, sample: u16) -> Option<Range>
 }
 
 /// A range with the samples of one more pixel.
-fn widen_all<K: Kind>(range: Option<Range>, pixel: K) -> Option<Range>
+fn widen_all<K: Kind>(mut range: Option<Range>, pixel: K) -> Option<Range>
     ensures { λ r. ⌜ r ≡ widened range (K·Kind .ops .samples pixel) ⌝ }
 {
-    let mut range = range;
     for i in 0..K::depth() {
         range = widen(range, pixel.sample(i));
     }
@@ -80,12 +79,11 @@ fn note_pixel<K: Kind>(survey: Survey, pixel: K) -> Survey
 }
 
 /// A survey with the pixels of these codes.
-pub fn note_pixels<K: Kind>(survey: Survey, codes: &[u64]) -> Survey
+pub fn note_pixels<K: Kind>(mut survey: Survey, codes: &[u64]) -> Survey
     requires room { ⌜ seen survey + length (now codes) ≤ 2 ^ 63 ⌝ }
     requires codes { ⌜ ((k : ℕ) → k < length (now codes) → isSome (K·Kind .ops .decode (getD (now codes) k 0)) ≡ true) ⌝ }
     ensures { λ r. ⌜ ((f : ℕ → Place K) → Shown (K·Kind .ops) f (length (now (codes .entry))) (now (codes .entry)) → r ≡ onward (K·Kind .ops) survey f (length (now (codes .entry)))) ⌝ }
 {
-    let mut survey = survey;
     for k in 0..codes.len() {
         let pixel = K::decode(codes[k]).unwrap();
         survey = note_pixel(survey, pixel);
@@ -94,11 +92,10 @@ pub fn note_pixels<K: Kind>(survey: Survey, codes: &[u64]) -> Survey
 }
 
 /// A survey with one more hole.
-pub fn note_hole(survey: Survey, fault: Fault) -> Survey
+pub fn note_hole(mut survey: Survey, fault: Fault) -> Survey
     requires { ⌜ seen survey < 2 ^ 63 ⌝ }
     ensures { λ r. ⌜ r ≡ faulted (Some fault) (counted (fault .cause) survey) ⌝ }
 {
-    let mut survey = survey;
     match fault.cause {
         Cause::Missing => survey.missing += 1,
         Cause::Unread => survey.unread += 1,
