@@ -1,3 +1,4 @@
 mod Onward
 mod Looking
 mod Accounts
+mod Advance

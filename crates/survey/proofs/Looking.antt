@@ -81,10 +81,10 @@ clean-at f (suc n) k h e =
     ⊎-elim (λ l. clean-at f n k l (b .0)) (λ l. let q : k ≡ n = omega arith in ap (λ x. faultOf (f x)) q ∙ b .1) (cases-lt k n)
 
 -- a rectangle of one row
-pub record Flat (r : Rect) (left top width : ℕ) : Type 0 where
-  pub left : r .left ≡ left
-  pub top : r .top ≡ top
-  pub width : r .width ≡ width
+pub record Flat (r : Rect) (l t w : ℕ) : Type 0 where
+  pub left : r .left ≡ l
+  pub top : r .top ≡ t
+  pub width : r .width ≡ w
   pub height : r .height ≡ 1
 
 pub flat-area : (r : Rect) (l t w : ℕ) → Flat r l t w → area r ≡ w

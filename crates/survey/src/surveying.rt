@@ -49,8 +49,10 @@ fn look<P: Picture>(picture: &mut P, left: u32, top: u32, width: u32, buffer: &m
 {
     match picture.prepare(part(left, top, width), buffer) {
         Ok(()) => Ok(()),
-        Err(Refusal::Hole(fault)) => Err(fault),
-        Err(_) => unreachable(),
+        Err(refusal) => match refusal {
+            Refusal::Hole(fault) => Err(fault),
+            _ => unreachable(),
+        },
     }
 }
 

@@ -2,7 +2,9 @@ use mathlib.Core.Path.{_≡_, refl, sym, _∙_, ap}
 use Prim.Native.Nat.{ℕ}
 use native.Mathlib.Omega.{arith}
 use lib.ListN.{length}
-use Rattle.picture.specs.Prepare.{orFault}
+use Rattle.picture.specs.declared.fault.Refusal.the-variants.{Hole}
+use Rattle.picture.specs.Refusals.{told}
+use Rattle.picture.specs.Prepare.{answer, orFault}
 use Rattle.survey.proofs.Looking.{Flat, flat-done, flat-hole, flat-shown}
 use Rattle.survey.proofs.surveying.look.Needs as need
 
@@ -23,15 +25,17 @@ returns-in-Ok g c =
       sound = c .prepare .ensures .stays;
     }
 
-pub returns-in-Err-Hole : need.returns-in-Err-Hole
-returns-in-Err-Hole g c =
+pub returns-in-Hole : need.returns-in-Hole
+returns-in-Hole g c =
     let i = g .P·Picture .model (c .args .picture .now) .shown in
     let r = c .part .result in
     let l = c .args .left in
     let t = c .args .top in
     let w = c .args .width in
+    let n = length (c .args .buffer .now) in
     let h : Flat r l t w = record { left = c .part .ensures .left; top = c .part .ensures .top; width = c .part .ensures .width; height = c .part .ensures .height } in
-    let e = flat-hole i r l t w (length (c .args .buffer .now)) (c .in-Err-Hole .fault) h (c .pre .across) (c .pre .down) (c .pre .room) (c .in-Err-Hole .ensures tt .answers) in
+    let a : told (Hole (c .in-Hole .fault)) ≡ answer i r n = ap told (sym (c .in-Hole .is)) ∙ c .in-Err .ensures tt .answers in
+    let e = flat-hole i r l t w n (c .in-Hole .fault) h (c .pre .across) (c .pre .down) (c .pre .room) a in
     record {
       answer = ap orFault (sym e);
       codes = λ z. let n : _≡_ {A = ℕ} 0 1 = cc in absurd (omega arith);
