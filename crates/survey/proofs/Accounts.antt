@@ -1,10 +1,11 @@
 -- What a survey says of the places that it saw.
 use mathlib.Core.Path.{_≡_, refl, sym, _∙_, ap, subst}
-use mathlib.Core.Bool.{true}
+use mathlib.Core.Bool.{Bool, true, false, cond}
 use mathlib.Core.List.{List, [], _∷_}
 use mathlib.Core.Logic.{_⊎_, inl, inr, ⊎-elim}
 use Prim.Native.Nat.{ℕ, zero, suc, _+_, _<_, _≤_, min, max}
 use native.Mathlib.Omega.{arith}
+use lib.Dec.{eqb}
 use lib.ListN.{length, getD}
 use Rattle.std.proofs.shelf.Tests.{cases-lt}
 use Rattle.std.specs.Options.{isSome}
@@ -14,10 +15,11 @@ use Rattle.pixel.specs.Ops.{Ops}
 use Rattle.picture.specs.declared.fault.Cause.{Cause}
 use Rattle.picture.specs.declared.fault.Cause.the-variants.{Missing, Unread, Above, NoPixel}
 use Rattle.picture.specs.declared.fault.Fault.{Fault}
+use Rattle.picture.specs.Refusals.{causeNumber}
 use Rattle.picture.specs.Places.{Place, pixel, hole, faultOf, orElse, firstFault}
 use Rattle.survey.specs.declared.findings.Range.{Range}
 use Rattle.survey.specs.declared.findings.Survey.{Survey}
-use Rattle.survey.specs.Surveys.{fresh, wider, widened, counted, Between, Ends, noted, onward, Occurs, Account}
+use Rattle.survey.specs.Surveys.{fresh, wider, widened, counted, Between, Ends, isPixel, isHole, tally, noted, onward, Occurs, Account}
 use Rattle.survey.proofs.Onward.{seen-onward}
 
 -- a wider range has what the range had
@@ -77,11 +79,66 @@ counted-first Unread s = refl
 counted-first Above s = refl
 counted-first NoPixel s = refl
 
+counted-pixels : (c : Cause) (s : Survey) → counted c s .pixels ≡ s .pixels + 0
+counted-pixels Missing s = omega arith
+counted-pixels Unread s = omega arith
+counted-pixels Above s = omega arith
+counted-pixels NoPixel s = omega arith
+
+counted-missing : (c : Cause) (s : Survey) → counted c s .missing ≡ s .missing + cond (eqb (causeNumber Missing) (causeNumber c)) 1 0
+counted-missing Missing s = refl
+counted-missing Unread s = omega arith
+counted-missing Above s = omega arith
+counted-missing NoPixel s = omega arith
+
+counted-unread : (c : Cause) (s : Survey) → counted c s .unread ≡ s .unread + cond (eqb (causeNumber Unread) (causeNumber c)) 1 0
+counted-unread Missing s = omega arith
+counted-unread Unread s = refl
+counted-unread Above s = omega arith
+counted-unread NoPixel s = omega arith
+
+counted-above : (c : Cause) (s : Survey) → counted c s .above ≡ s .above + cond (eqb (causeNumber Above) (causeNumber c)) 1 0
+counted-above Missing s = omega arith
+counted-above Unread s = omega arith
+counted-above Above s = refl
+counted-above NoPixel s = omega arith
+
+counted-no-pixel : (c : Cause) (s : Survey) → counted c s .«no_pixel» ≡ s .«no_pixel» + cond (eqb (causeNumber NoPixel) (causeNumber c)) 1 0
+counted-no-pixel Missing s = omega arith
+counted-no-pixel Unread s = omega arith
+counted-no-pixel Above s = omega arith
+counted-no-pixel NoPixel s = refl
+
 or-none : {X : Type 0} (x : Option X) → x ≡ orElse x None
 or-none None = refl
 or-none (Some x) = refl
 
 module _ {K S : Type 0} (o : Ops K S) where
+  tally-is : (get : Survey → ℕ) (t : Place K → Bool) → get fresh ≡ 0 → ((s : Survey) (p : Place K) → get (noted o s p) ≡ get s + cond (t p) 1 0)
+      → (f : ℕ → Place K) (n : ℕ) → get (onward o fresh f n) ≡ tally t f n
+  tally-is get t z h f zero = z
+  tally-is get t z h f (suc n) = h (onward o fresh f n) (f n) ∙ ap (λ x. x + cond (t (f n)) 1 0) (tally-is get t z h f n)
+
+  noted-pixels : (s : Survey) (p : Place K) → noted o s p .pixels ≡ s .pixels + cond (isPixel p) 1 0
+  noted-pixels s (pixel p) = refl
+  noted-pixels s (hole f) = counted-pixels (f .cause) s
+
+  noted-missing : (s : Survey) (p : Place K) → noted o s p .missing ≡ s .missing + cond (isHole Missing p) 1 0
+  noted-missing s (pixel p) = omega arith
+  noted-missing s (hole f) = counted-missing (f .cause) s
+
+  noted-unread : (s : Survey) (p : Place K) → noted o s p .unread ≡ s .unread + cond (isHole Unread p) 1 0
+  noted-unread s (pixel p) = omega arith
+  noted-unread s (hole f) = counted-unread (f .cause) s
+
+  noted-above : (s : Survey) (p : Place K) → noted o s p .above ≡ s .above + cond (isHole Above p) 1 0
+  noted-above s (pixel p) = omega arith
+  noted-above s (hole f) = counted-above (f .cause) s
+
+  noted-no-pixel : (s : Survey) (p : Place K) → noted o s p .«no_pixel» ≡ s .«no_pixel» + cond (isHole NoPixel p) 1 0
+  noted-no-pixel s (pixel p) = omega arith
+  noted-no-pixel s (hole f) = counted-no-pixel (f .cause) s
+
   noted-first : (s : Survey) (p : Place K) → noted o s p .first ≡ orElse (s .first) (faultOf p)
   noted-first s (pixel p) = or-none (s .first)
   noted-first s (hole f) = ap (λ x. orElse x (Some f)) (counted-first (f .cause) s)
@@ -129,6 +186,11 @@ module _ {K S : Type 0} (o : Ops K S) where
   pub account : ((p : K) → 1 ≤ length (o .samples p)) → (f : ℕ → Place K) (n : ℕ) → Account o f n (onward o fresh f n)
   account d f n = record {
     counts = omega (arith, seen-onward o fresh f n);
+    pixels = tally-is (λ s. s .pixels) isPixel refl noted-pixels f n;
+    missing = tally-is (λ s. s .missing) (isHole Missing) refl noted-missing f n;
+    unread = tally-is (λ s. s .unread) (isHole Unread) refl noted-unread f n;
+    above = tally-is (λ s. s .above) (isHole Above) refl noted-above f n;
+    others = tally-is (λ s. s .«no_pixel») (isHole NoPixel) refl noted-no-pixel f n;
     first = first-is f n;
     ranged = λ k p h e. some-between (onward o fresh f n .range) (getD (o .samples p) 0 0)
         (within-is f n (getD (o .samples p) 0 0) (record { place = k; below = h; shows = p; there = e; index = 0; deep = omega (arith, d p); sample = refl }));

@@ -1,8 +1,9 @@
 -- What a survey finds, place by place in reading order.
 use mathlib.Core.Path.{_≡_}
+use mathlib.Core.Bool.{Bool, true, false, cond}
 use mathlib.Core.List.{List, [], _∷_}
-use Prim.Native.Nat.{ℕ, zero, suc, _+_, _-_, _/_, _%_, _^_, _<_, _≤_, min, max}
-use mathlib.Core.Bool.{true}
+use Prim.Native.Nat.{ℕ, zero, suc, _+_, _*_, _/_, _%_, _<_, _≤_, min, max}
+use lib.Dec.{eqb}
 use lib.ListN.{length, getD}
 use Rattle.std.specs.declared.option.Option.{Option}
 use Rattle.std.specs.declared.option.Option.the-variants.{Some, None}
@@ -11,6 +12,7 @@ use Rattle.pixel.specs.Ops.{Ops}
 use Rattle.picture.specs.declared.fault.Cause.{Cause}
 use Rattle.picture.specs.declared.fault.Cause.the-variants.{Missing, Unread, Above, NoPixel}
 use Rattle.picture.specs.declared.fault.Fault.{Fault}
+use Rattle.picture.specs.Refusals.{causeNumber}
 use Rattle.picture.specs.Places.{Place, pixel, hole, orElse, firstFault}
 use Rattle.picture.specs.Images.{Image}
 use Rattle.survey.specs.declared.findings.Range.{Range}
@@ -62,9 +64,28 @@ abbrev pub Ends : (ℕ → Type 0) → Option Range → Type 0
 Ends P None = Unit {0}
 Ends P (Some r) = P (r .smallest) × P (r .largest)
 
+-- as many of these places as the picture has
+abbrev pub upTo : {K : Type 0} → Image K → ℕ → ℕ
+upTo i places = min places (i .width * i .height)
+
 -- the k-th place of a picture in reading order
 abbrev pub reading : {K : Type 0} → Image K → ℕ → Place K
 reading i k = i .at (k % i .width) (k / i .width)
+
+-- the place is a pixel
+abbrev pub isPixel : {K : Type 0} → Place K → Bool
+isPixel (pixel p) = true
+isPixel (hole f) = false
+
+-- the place is a hole of this cause
+abbrev pub isHole : {K : Type 0} → Cause → Place K → Bool
+isHole c (pixel p) = false
+isHole c (hole f) = eqb (causeNumber c) (causeNumber (f .cause))
+
+-- how many of the first n places pass a test
+abbrev pub tally : {K : Type 0} → (Place K → Bool) → (ℕ → Place K) → ℕ → ℕ
+tally t f zero = 0
+tally t f (suc n) = tally t f n + cond (t (f n)) 1 0
 
 module _ {K S : Type 0} (o : Ops K S) where
   -- one more place
@@ -95,6 +116,12 @@ module _ {K S : Type 0} (o : Ops K S) where
   pub record Account (f : ℕ → Place K) (n : ℕ) (s : Survey) : Type 0 where
     -- each place is counted once
     pub counts : s .pixels + s .missing + s .unread + s .above + s .«no_pixel» ≡ n
+    -- under what it is
+    pub pixels : s .pixels ≡ tally isPixel f n
+    pub missing : s .missing ≡ tally (isHole Missing) f n
+    pub unread : s .unread ≡ tally (isHole Unread) f n
+    pub above : s .above ≡ tally (isHole Above) f n
+    pub others : s .«no_pixel» ≡ tally (isHole NoPixel) f n
     -- the first hole tells its fault
     pub first : s .first ≡ firstFault f n
     -- where there is a pixel there is a range

@@ -29,7 +29,7 @@ impl Survey {
         }
     }
 
-    /// How many holes there are; it stops at 2^64 - 1.
+    /// How many holes there are, of all causes; it stops at 2^64 - 1.
     pub fn holes(&self) -> u64
         ensures { λ r. ⌜ r ≡ min (holesOf (now (self .entry))) (2 ^ 64 - 1) ⌝ }
     {

@@ -1,11 +1,11 @@
 ghost use mathlib.Core.Path.{_≡_};
-ghost use Prim.Native.Nat.{ℕ, _+_, _-_, _*_, _%_, _^_, _<_, _≤_, min};
+ghost use Prim.Native.Nat.{ℕ, _+_, _%_, _<_, _≤_};
 ghost use lib.ListN.{length};
 ghost use denote.Ref.{now};
 ghost use Rattle.std.specs.declared.result.Result.the-variants.{Ok};
 ghost use Rattle.picture.specs.Limits.{largest};
 ghost use Rattle.picture.specs.Prepare.{firstIn, lined, Shown};
-ghost use Rattle.survey.specs.Surveys.{reading, surveyed, Account};
+ghost use Rattle.survey.specs.Surveys.{Account, reading, surveyed, upTo};
 use crate::findings::Survey;
 use crate::notes::note_hole;
 use crate::notes::note_pixels;
@@ -73,8 +73,8 @@ fn stretch(run: usize, place: u64, wide: u32, count: u64) -> u32
 /// Surveys the first `places` places of a picture in reading order, or all of them if there are fewer.
 pub fn survey<P: Picture>(picture: &mut P, places: u64) -> Survey
     requires { ⌜ P·Picture .sound (now picture) ⌝ }
-    ensures value { λ r. ⌜ r ≡ surveyed (Pixel·Kind .ops) (P·Picture .model (now (picture .entry)) .shown) (min places (P·Picture .model (now (picture .entry)) .shown .width * P·Picture .model (now (picture .entry)) .shown .height)) ⌝ }
-    ensures law { λ r. ⌜ Account (Pixel·Kind .ops) (reading (P·Picture .model (now (picture .entry)) .shown)) (min places (P·Picture .model (now (picture .entry)) .shown .width * P·Picture .model (now (picture .entry)) .shown .height)) r ⌝ }
+    ensures value { λ r. ⌜ r ≡ surveyed (Pixel·Kind .ops) (P·Picture .model (now (picture .entry)) .shown) (upTo (P·Picture .model (now (picture .entry)) .shown) places) ⌝ }
+    ensures law { λ r. ⌜ Account (Pixel·Kind .ops) (reading (P·Picture .model (now (picture .entry)) .shown)) (upTo (P·Picture .model (now (picture .entry)) .shown) places) r ⌝ }
     ensures kept { λ _. ⌜ P·Picture .model (now (picture .exit)) ≡ P·Picture .model (now (picture .entry)) ⌝ }
     ensures sound { λ _. ⌜ P·Picture .sound (now (picture .exit)) ⌝ }
 {
