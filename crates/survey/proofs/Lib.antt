@@ -2,3 +2,4 @@ mod Onward
 mod Looking
 mod Accounts
 mod Advance
+mod Runs

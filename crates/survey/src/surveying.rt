@@ -1,5 +1,5 @@
 ghost use mathlib.Core.Path.{_≡_};
-ghost use Prim.Native.Nat.{ℕ, _+_, _%_, _<_, _≤_};
+ghost use Prim.Native.Nat.{ℕ, _+_, _*_, _%_, _<_, _≤_};
 ghost use lib.ListN.{length};
 ghost use denote.Ref.{now};
 ghost use Rattle.std.specs.declared.result.Result.the-variants.{Ok};
@@ -45,6 +45,7 @@ fn look<P: Picture>(picture: &mut P, left: u32, top: u32, width: u32, buffer: &m
     ensures answer { λ r. ⌜ r ≡ firstIn (lined (P·Picture .model (now (picture .entry)) .shown) left top) width ⌝ }
     ensures codes { λ r. ⌜ (r ≡ Ok tt → Shown (Pixel·Kind .ops) (lined (P·Picture .model (now (picture .entry)) .shown) left top) width (now (buffer .exit))) ⌝ }
     ensures kept { λ _. ⌜ P·Picture .model (now (picture .exit)) ≡ P·Picture .model (now (picture .entry)) ⌝ }
+    ensures quick { λ _. ⌜ P·Picture .count (now (picture .exit)) ≤ P·Picture .count (now (picture .entry)) + 1 ⌝ }
     ensures sound { λ _. ⌜ P·Picture .sound (now (picture .exit)) ⌝ }
 {
     match picture.prepare(part(left, top, width), buffer) {
@@ -71,11 +72,13 @@ fn stretch(run: usize, place: u64, wide: u32, count: u64) -> u32
 }
 
 /// Surveys the first `places` places of a picture in reading order, or all of them if there are fewer.
+/// It makes at most two prepares for each place, and twelve more.
 pub fn survey<P: Picture>(picture: &mut P, places: u64) -> Survey
     requires { ⌜ P·Picture .sound (now picture) ⌝ }
     ensures value { λ r. ⌜ r ≡ surveyed (Pixel·Kind .ops) (P·Picture .model (now (picture .entry)) .shown) (upTo (P·Picture .model (now (picture .entry)) .shown) places) ⌝ }
     ensures law { λ r. ⌜ Account (Pixel·Kind .ops) (reading (P·Picture .model (now (picture .entry)) .shown)) (upTo (P·Picture .model (now (picture .entry)) .shown) places) r ⌝ }
     ensures kept { λ _. ⌜ P·Picture .model (now (picture .exit)) ≡ P·Picture .model (now (picture .entry)) ⌝ }
+    ensures quick { λ _. ⌜ P·Picture .count (now (picture .exit)) ≤ P·Picture .count (now (picture .entry)) + 2 * upTo (P·Picture .model (now (picture .entry)) .shown) places + 12 ⌝ }
     ensures sound { λ _. ⌜ P·Picture .sound (now (picture .exit)) ⌝ }
 {
     let size = picture.size();
@@ -95,14 +98,11 @@ pub fn survey<P: Picture>(picture: &mut P, places: u64) -> Survey
                 place += n as u64;
                 run = (run * 2).min(LONGEST);
             }
-            Err(fault) => {
-                if n == 1 {
-                    survey = note_hole(survey, fault);
-                    place += 1;
-                } else {
-                    run = n as usize / 2;
-                }
+            Err(fault) if n == 1 => {
+                survey = note_hole(survey, fault);
+                place += 1;
             }
+            Err(_) => run = n as usize / 2,
         }
     }
     survey

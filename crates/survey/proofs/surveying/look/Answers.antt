@@ -22,6 +22,7 @@ returns-in-Ok g c =
       answer = ap orFault (sym e);
       codes = λ _. flat-shown (g .Pixel·Kind .ops) i r l t w before (c .prepare .last .buffer) h (c .pre .across) (c .pre .down) (c .pre .room) (c .prepare .ensures .fills) e;
       kept = c .prepare .ensures .keeps;
+      quick = omega (arith, c .prepare .ensures .counts);
       sound = c .prepare .ensures .stays;
     }
 
@@ -40,5 +41,6 @@ returns-in-Hole g c =
       answer = ap orFault (sym e);
       codes = λ z. let n : _≡_ {A = ℕ} 0 1 = cc in absurd (omega arith);
       kept = c .prepare .ensures .keeps;
+      quick = omega (arith, c .prepare .ensures .counts);
       sound = c .prepare .ensures .stays;
     }

@@ -1,5 +1,6 @@
+use borrow.Author.Needs.{needs}
 use mathlib.Core.Path.{_≡_, refl, sym, _∙_, ap, subst}
-use Prim.Native.Nat.{ℕ, _+_, _*_, _/_, _%_, _<_, _≤_, min}
+use Prim.Native.Nat.{ℕ, _+_, _-_, _*_, _/_, _%_, _<_, _≤_, min}
 use native.Mathlib.Omega.{arith}
 use lib.ListN.{length, take}
 use Rattle.std.proofs.shelf.Lists.{length-take-le}
@@ -11,7 +12,13 @@ use Rattle.picture.proofs.Faults.{fault-of-err}
 use Rattle.survey.specs.Surveys.{seen, reading, surveyed, Account}
 use Rattle.survey.proofs.Advance.{Part, row-below, few, seen-surveyed, taken-some, pixels-more, hole-more}
 use Rattle.survey.proofs.Accounts.{account}
+use Rattle.survey.proofs.Runs.{Spent, spent-none, spent-pixels, spent-hole, spent-half}
 use Rattle.survey.proofs.surveying.survey.Needs as need
+
+pub loop-place-holds : need.loop-place-holds
+loop-place-holds g c =
+    let z : g .P·Picture .count (c .args .picture .now) - g .P·Picture .count (c .args .picture .now) ≡ 0 = omega arith in
+    (c .new-survey .ensures, omega arith, omega arith, omega arith, search needs, refl, c .pre, subst (λ x. Spent 4096 x 0) (sym z) spent-none)
 
 pub look-requires : need.look-requires
 look-requires g c κs =
@@ -65,6 +72,7 @@ loop-place-again-in-Ok g c =
       omega (arith, c .look .kept .buffer),
       c .look .ensures .kept ∙ c .loop-place .inv .5,
       c .look .ensures .sound,
+      spent-pixels (c .loop-place .run) (c .min-run .result) n _ _ place (c .loop-place .inv .7) (omega (arith, c .min-run .ensures)) (omega (arith, c .look .ensures .quick)) (c .stretch-n .ensures .some),
     )
 
 pub note-hole-survey-requires : need.note-hole-survey-requires
@@ -94,6 +102,21 @@ loop-place-again-then-n-eq1 g c =
       omega (arith, c .look .kept .buffer),
       c .look .ensures .kept ∙ c .loop-place .inv .5,
       c .look .ensures .sound,
+      spent-hole (c .loop-place .run) _ _ place (c .loop-place .inv .7) (omega (arith, c .look .ensures .quick)),
+    )
+
+pub loop-place-again : need.loop-place-again
+loop-place-again g c =
+    let n = c .stretch-n .result in
+    let two : 2 ≤ n = omega (arith, c .stretch-n .ensures .some) in (
+      c .loop-place .inv .0,
+      c .loop-place .inv .1,
+      omega arith,
+      omega (arith, c .stretch-n .ensures .run),
+      omega (arith, c .look .kept .buffer),
+      c .look .ensures .kept ∙ c .loop-place .inv .5,
+      c .look .ensures .sound,
+      spent-half (c .loop-place .run) n _ _ (c .loop-place .place) (c .loop-place .inv .7) (c .stretch-n .ensures .run) two (omega (arith, c .look .ensures .quick)),
     )
 
 pub returns : need.returns
@@ -110,5 +133,6 @@ returns g c =
       value = v;
       law = subst (Account o (reading i) n) (sym v) (account o (λ p. omega (arith, g .Pixel·Kind·met .deep p, g .Pixel·Kind·met .few .0)) (reading i) n);
       kept = c .loop-place .inv .5;
+      quick = omega (arith, c .loop-place .inv .7 .few);
       sound = c .loop-place .inv .6;
     }
