@@ -47,7 +47,7 @@ cause-is NoPixel Above e = absurd (omega arith)
 cause-is NoPixel NoPixel e = refl
 
 fault-made : (f g : Fault) → f .cause ≡ g .cause → f .source ≡ g .source → f .column ≡ g .column → f .row ≡ g .row → f ≡ g
-fault-made f g a b c d = 
+fault-made f g a b c d =
     let make : Cause → ℕ → ℕ → ℕ → Fault = λ x y z w. record { cause = x; source = y; column = z; row = w } in
     let e : make (f .cause) (f .source) (f .column) (f .row) ≡ make (g .cause) (g .source) (g .column) (g .row) = cc in
     e

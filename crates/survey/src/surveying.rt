@@ -36,7 +36,13 @@ fn part(left: u32, top: u32, width: u32) -> Rect
 }
 
 /// Puts the codes of a part of a row into the buffer, or tells the first hole's fault.
-fn look<P: Picture>(picture: &mut P, left: u32, top: u32, width: u32, buffer: &mut [u64]) -> Result<(), Fault>
+fn look<P: Picture>(
+    picture: &mut P,
+    left: u32,
+    top: u32,
+    width: u32,
+    buffer: &mut [u64],
+) -> Result<(), Fault>
     requires sound { ⌜ P·Picture .sound (now picture) ⌝ }
     requires wide { ⌜ 1 ≤ width ⌝ }
     requires across { ⌜ left + width ≤ P·Picture .model (now picture) .shown .width ⌝ }

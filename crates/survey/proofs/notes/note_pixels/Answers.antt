@@ -20,9 +20,9 @@ loop-k-again g c =
     let p = c .unwrap-pixel .result in (
       omega (arith, ap seen (c .note-pixel-survey .ensures), seen-noted o s (pixel p), c .loop-k .inv .0),
       λ f h.
-      let e = coded-pixel o (g .K·Kind·met .decodes) (f k) (getD (c .args .codes .now) k 0) p (h k (c .loop-k-test .taken)) (sym (c .decode .ensures) ∙ c .unwrap-pixel .ensures) in
-      c .note-pixel-survey .ensures ∙ ap (λ x. shown (o .samples p) x) (c .loop-k .inv .1 f h) ∙ ap (noted o (onward o (c .args .survey) f k)) (sym e)
-      ∙ ap (onward o (c .args .survey) f) (sym (add-one k)),
+          let e = coded-pixel o (g .K·Kind·met .decodes) (f k) (getD (c .args .codes .now) k 0) p (h k (c .loop-k-test .taken)) (sym (c .decode .ensures) ∙ c .unwrap-pixel .ensures) in
+          c .note-pixel-survey .ensures ∙ ap (λ x. shown (o .samples p) x) (c .loop-k .inv .1 f h) ∙ ap (noted o (onward o (c .args .survey) f k)) (sym e)
+          ∙ ap (onward o (c .args .survey) f) (sym (add-one k)),
     )
 
 pub returns : need.returns
