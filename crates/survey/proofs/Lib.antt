@@ -1,0 +1,5 @@
+mod Onward
+mod Looking
+mod Accounts
+mod Advance
+mod Runs
