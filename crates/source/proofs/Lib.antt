@@ -9,3 +9,4 @@ pub mod Sampling
 pub mod Loads
 pub mod Rasters
 pub mod Remembering
+pub mod Losing

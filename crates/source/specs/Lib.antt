@@ -9,3 +9,4 @@ pub mod Files
 pub mod Loading
 pub mod Memory
 pub mod Opening
+pub mod Extent

@@ -1,5 +1,6 @@
 //! What a picture file holds, read from a store of bytes, and pictures in memory.
 
+mod extent;
 mod file;
 mod front;
 mod header;
@@ -21,3 +22,4 @@ pub use memory::CodeSlice;
 pub use memory::Codes;
 pub use memory::MemorySource;
 pub use memory::SliceCodes;
+pub use raster::Raster;
