@@ -1,11 +1,10 @@
 ghost use mathlib.Core.Path.{_≡_};
-ghost use Prim.Native.Nat.{ℕ, _+_, _*_, _<_, _≤_};
-ghost use Rattle.pixel.specs.Kinds.{grey, colour};
-ghost use Rattle.store.specs.Cells.{capped, missing};
-ghost use Rattle.store.specs.Stores.{inBytes};
-ghost use Rattle.source.specs.Files.{pixelBytes};
+ghost use Prim.Native.Nat.{ℕ, _+_, _*_, _^_, _<_, _≤_};
+ghost use Rattle.store.specs.Cells.{capped};
+ghost use Rattle.source.specs.Extent.{Silent};
+ghost use Rattle.source.specs.Files.{rasterImage};
 ghost use Rattle.survey.specs.Surveys.{surveyed};
-ghost use Rattle.inspection.specs.Reports.{Found, Reported, Silent, lost, reached};
+ghost use Rattle.inspection.specs.Reports.{Found, Reported, lost};
 use crate::report::Details;
 use crate::report::Finding;
 use crate::report::Report;
@@ -26,35 +25,29 @@ use store::Store;
 use survey::Survey;
 use survey::survey;
 
-/// How many pixels of a raster from `start` on have their first byte before `end`.
-fn first_bytes(start: u64, end: u64, step: u64) -> u64
-    requires { ⌜ 1 ≤ step ⌝ }
-    ensures { λ r. ⌜ r ≡ reached start end step ⌝ }
+/// A survey with so many more places that all miss their first byte, the first of them with this fault.
+fn lose(mut survey: Survey, count: u64, fault: Fault) -> Survey
+    requires { ⌜ survey .missing + count < 2 ^ 64 ⌝ }
+    ensures { λ r. ⌜ r ≡ lost survey count fault ⌝ }
 {
-    if end <= start { 0 } else { (end - start - 1) / step + 1 }
-}
-
-/// A survey with so many more places that all miss their first byte.
-fn lose(mut survey: Survey, count: u64, first: Fault) -> Survey
-    ensures { λ r. ⌜ r ≡ lost survey count first ⌝ }
-{
-    survey.missing = survey.missing.saturating_add(count);
+    survey.missing += count;
     if count > 0 && survey.first.is_none() {
-        survey.first = Some(first);
+        survey.first = Some(fault);
     }
     survey
 }
 
-/// Looks at every place of a file whose store has no byte from `end` on: only at those that may have one, so the work grows with the store and not with the numbers in the header.
-fn look<S: Store, K: Kind>(file: &mut FileSource<S, K>, end: u64) -> Survey
+/// Surveys a file whose store has no byte from `end` on. It prepares only places that may have one, so the work grows with the store and not with the numbers in the header.
+pub fn look<S: Store, K: Kind>(file: &mut FileSource<S, K>, end: u64) -> Survey
     requires { ⌜ Silent (capped (S·Store .at (now file .store))) end ⌝ }
     ensures { λ r. ⌜ r ≡ surveyed (K·Kind .ops) (rasterImage (K·Kind .ops) (capped (S·Store .at (now (file .entry) .store))) (now (file .entry) .raster)) (now (file .entry) .raster .size .width * now (file .entry) .raster .size .height) ⌝ }
 {
-    let size = file.size();
-    let wide = size.width as u64;
-    let total = wide * size.height as u64;
-    let places = first_bytes(file.header_length(), end, file.pixel_bytes()).min(total);
+    let raster = file.raster();
+    let wide = raster.size.width as u64;
+    let total = wide * raster.size.height as u64;
+    let places = file.pixels_before(end).min(total);
     let found = survey(file, places);
-    let fault = Fault { cause: Cause::Missing, source: file.number(), column: (places % wide) as u32, row: (places / wide) as u32 };
-    lose(found, total - places, fault)
+    let column = (places % wide) as u32;
+    let row = (places / wide) as u32;
+    lose(found, total - places, Fault { cause: Cause::Missing, source: raster.source, column, row })
 }

@@ -1,4 +1,4 @@
-mod Onward
+pub mod Onward
 mod Looking
 mod Accounts
 mod Advance
