@@ -14,7 +14,13 @@ use Rattle.picture.specs.declared.fault.Cause.the-variants.{Missing}
 use Rattle.picture.specs.declared.fault.Fault.{Fault}
 use Rattle.picture.specs.Places.{Place, hole, orElse}
 use Rattle.source.specs.declared.raster.Raster.{Raster}
-use Rattle.source.specs.Files.{faultAt, rasterImage}
+use Rattle.source.specs.declared.header.Header.{Header}
+use Rattle.source.specs.declared.header.HeaderError.{HeaderError}
+use Rattle.source.specs.Files.{faultAt, pixelAt, pixelBytes, rasterImage}
+use Rattle.source.specs.Opening.{headed}
+use Rattle.picture.specs.Images.{Image}
+use Rattle.std.specs.declared.result.Result.{Result}
+use Rattle.std.specs.declared.result.Result.the-variants.{Ok}
 use Rattle.source.specs.Extent.{LostBehind}
 use Rattle.survey.specs.declared.findings.Survey.{Survey}
 use Rattle.survey.specs.declared.findings.Range.{Range}
@@ -77,3 +83,17 @@ module _ {K S : Type 0} (o : Ops K S) where
         (λ k l. h ((places + k) % w) ((places + k) / w) (omega (arith, div-add-mod (places + k) w, mul-comm w ((places + k) / w)))))
     ∙ sym (onward-append o fresh (reading i) places (total - places))
     ∙ ap (surveyed o i) e
+
+  -- a picture by its header's numbers
+  abbrev drawn : (ℕ → Cell) → Header → ℕ → Image K
+  drawn at h src = record {
+    width = h .width;
+    height = h .height;
+    maxval = h .maxval;
+    at = λ x y. pixelAt o at (h .maxval) (h .length + (y * h .width + x) * pixelBytes o (h .maxval)) (faultAt src x y) }
+
+  pub drawn-same : (at : ℕ → Cell) (r s : Raster) → headed r ≡ headed s → r .source ≡ s .source → rasterImage o at r ≡ rasterImage o at s
+  drawn-same at r s h e = ap (λ x. drawn at x (r .source)) h ∙ ap (drawn at (headed s)) e
+
+pub ok-same : (h k : Header) → _≡_ {A = Result Header HeaderError} (Ok h) (Ok k) → h ≡ k
+ok-same h k e = cc

@@ -3,7 +3,7 @@
 mod looking;
 mod report;
 
-pub use looking::look;
+pub use looking::inspect;
 pub use report::Details;
 pub use report::Finding;
 pub use report::Report;

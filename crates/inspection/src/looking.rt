@@ -38,7 +38,7 @@ fn lose(mut survey: Survey, count: u64, fault: Fault) -> Survey
 }
 
 /// Surveys a file whose store has no byte from `end` on. It prepares only places that may have one, so the work grows with the store and not with the numbers in the header.
-pub fn look<S: Store, K: Kind>(file: &mut FileSource<S, K>, end: u64) -> Survey
+fn look<S: Store, K: Kind>(file: &mut FileSource<S, K>, end: u64) -> Survey
     requires { ⌜ Silent (capped (S·Store .at (now file .store))) end ⌝ }
     ensures { λ r. ⌜ r ≡ surveyed (K·Kind .ops) (rasterImage (K·Kind .ops) (capped (S·Store .at (now (file .entry) .store))) (now (file .entry) .raster)) (now (file .entry) .raster .size .width * now (file .entry) .raster .size .height) ⌝ }
 {
@@ -50,4 +50,34 @@ pub fn look<S: Store, K: Kind>(file: &mut FileSource<S, K>, end: u64) -> Survey
     let column = (places % wide) as u32;
     let row = (places / wide) as u32;
     lose(found, total - places, Fault { cause: Cause::Missing, source: raster.source, column, row })
+}
+
+/// Whether a store that has no byte from `end` on has a picture of this kind, and what is to be told of it.
+fn judge<S: Store + Drop, K: Kind>(store: S, end: u64) -> Finding
+    requires { ⌜ Silent (capped (S·Store .at store)) end ⌝ }
+    ensures { λ r. ⌜ Found (K·Kind .ops) (capped (S·Store .at store)) r ⌝ }
+{
+    match FileSource::<S, K>::open(store, 0) {
+        Ok(mut file) => {
+            let raster = file.raster();
+            let survey = look(&mut file, end);
+            Finding::Picture(Details { size: raster.size, header: raster.start, prepares: file.count(), survey })
+        }
+        Err(refused) => match read_header(&refused.back, K::mark()) {
+            Ok(_) => unreachable(),
+            Err(error) => Finding::Refused(error),
+        },
+    }
+}
+
+/// What is to be told of a file's bytes, opened as source 0: as colour if the second byte is `6`, else as grey.
+pub fn inspect(bytes: &[u8]) -> Report
+    ensures { λ r. ⌜ Reported (now (bytes .entry)) r ⌝ }
+{
+    let end = bytes.len() as u64;
+    if bytes.len() > 1 && bytes[1] == b'6' {
+        Report { mark: b'6', finding: judge::<Bytes, Colour>(Bytes { bytes }, end) }
+    } else {
+        Report { mark: b'5', finding: judge::<Bytes, Grey>(Bytes { bytes }, end) }
+    }
 }
