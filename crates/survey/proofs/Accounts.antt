@@ -1,6 +1,6 @@
 -- What a survey says of the places that it saw.
 use mathlib.Core.Path.{_≡_, refl, sym, _∙_, ap, subst}
-use mathlib.Core.Bool.{Bool, true, false, cond}
+use mathlib.Core.Bool.{Bool, true, cond}
 use mathlib.Core.List.{List, [], _∷_}
 use mathlib.Core.Logic.{_⊎_, inl, inr, ⊎-elim}
 use Prim.Native.Nat.{ℕ, zero, suc, _+_, _<_, _≤_, min, max}
@@ -14,7 +14,6 @@ use Rattle.std.specs.declared.option.Option.the-variants.{Some, None}
 use Rattle.pixel.specs.Ops.{Ops}
 use Rattle.picture.specs.declared.fault.Cause.{Cause}
 use Rattle.picture.specs.declared.fault.Cause.the-variants.{Missing, Unread, Above, NoPixel}
-use Rattle.picture.specs.declared.fault.Fault.{Fault}
 use Rattle.picture.specs.Refusals.{causeNumber}
 use Rattle.picture.specs.Places.{Place, pixel, hole, faultOf, orElse, firstFault}
 use Rattle.survey.specs.declared.findings.Range.{Range}

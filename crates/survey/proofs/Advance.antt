@@ -1,20 +1,21 @@
 -- A survey goes on by a part of a row.
-use mathlib.Core.Path.{_≡_, refl, sym, _∙_, ap, subst}
+use mathlib.Core.Path.{_≡_, sym, _∙_, ap, subst}
 use mathlib.Core.Bool.{true}
 use mathlib.Core.List.{List}
-use Prim.Native.Nat.{ℕ, zero, suc, _+_, _*_, _/_, _%_, _<_, _≤_}
+use Prim.Native.Nat.{ℕ, _+_, _*_, _/_, _%_, _<_, _≤_}
 use native.Mathlib.Omega.{arith}
 use lib.ListN.{length, getD, take}
 use Rattle.std.proofs.shelf.Lists.{length-take-le, getD-take}
 use Rattle.std.proofs.shelf.Bits.{div-mul-add, mod-mul-add, div-add-mod', div-below, mul-le}
 use Rattle.std.specs.Options.{isSome}
-use Rattle.std.specs.declared.option.Option.{Option}
-use Rattle.std.specs.declared.option.Option.the-variants.{Some, None}
+use Rattle.std.specs.declared.option.Option.the-variants.{Some}
+use Rattle.std.specs.declared.result.Result.the-variants.{Err}
 use Rattle.pixel.specs.Ops.{Ops}
 use Rattle.picture.specs.declared.fault.Fault.{Fault}
 use Rattle.picture.specs.Places.{Place, pixel, hole, faultOf, firstFault}
 use Rattle.picture.specs.Images.{Image}
-use Rattle.picture.specs.Prepare.{lined, coded, Shown}
+use Rattle.picture.specs.Prepare.{lined, firstIn, coded, Shown}
+use Rattle.picture.proofs.Faults.{fault-of-err}
 use Rattle.survey.specs.declared.findings.Survey.{Survey}
 use Rattle.survey.specs.Surveys.{fresh, seen, counted, faulted, reading, noted, onward, surveyed}
 use Rattle.survey.proofs.Onward.{seen-onward, onward-append, onward-same}
@@ -78,12 +79,14 @@ module _ {K S : Type 0} (o : Ops K S) where
       let f : ℕ → Place K = lined j (place % w) (place / w) in
       r f (taken-shown f n codes l c) ∙ ap (onward o s f) (length-take-le n codes l) ∙ ap (λ x. onward o x f n) e ∙ part-surveyed i j w place n h
 
-  pub hole-more : (i j : Image K) (w place : ℕ) (s t : Survey) (f : Fault) → Part i j w place 1 → s ≡ surveyed o i place
-      → firstFault (lined j (place % w) (place / w)) 1 ≡ Some f → t ≡ faulted (Some f) (counted (f .cause) s)
+  pub hole-more : (i j : Image K) (w place n : ℕ) (s t : Survey) (f : Fault) → Part i j w place n → n ≡ 1 → s ≡ surveyed o i place
+      → Err f ≡ firstIn (lined j (place % w) (place / w)) n → t ≡ faulted (Some f) (counted (f .cause) s)
       → t ≡ surveyed o i (place + 1)
-  hole-more i j w place s t f h e c r =
-      let q = hole-is (lined j (place % w) (place / w) 0) f c in
-      r ∙ ap (λ x. faulted (Some f) (counted (f .cause) x)) e ∙ ap (noted o (surveyed o i place)) (sym q) ∙ part-surveyed i j w place 1 h
+  hole-more i j w place n s t f h l e c r =
+      let at : ℕ → Place K = lined j (place % w) (place / w) in
+      let q = hole-is (at 0) f (fault-of-err (firstFault at 1) f (c ∙ ap (firstIn at) l)) in
+      r ∙ ap (λ x. faulted (Some f) (counted (f .cause) x)) e ∙ ap (noted o (surveyed o i place)) (sym q)
+      ∙ part-surveyed i j w place 1 (subst (Part i j w place) l h)
 
   -- the codes of a part are pixels' codes
   pub taken-some : ((p : K) → o .decode (o .code p) ≡ Some p) → (f : ℕ → Place K) (n : ℕ) (codes : List ℕ) → n ≤ length codes → Shown o f n codes

@@ -3,3 +3,4 @@ mod Looking
 mod Accounts
 mod Advance
 mod Runs
+mod Underway

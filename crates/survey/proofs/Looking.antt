@@ -12,19 +12,16 @@ use Rattle.std.proofs.shelf.Tests.{cases-lt}
 use Rattle.std.proofs.shelf.Counted.{length-map-counting, getD-map-counting}
 use Rattle.std.specs.declared.option.Option.{Option}
 use Rattle.std.specs.declared.option.Option.the-variants.{Some, None}
-use Rattle.std.specs.declared.result.Result.{Result}
-use Rattle.std.specs.declared.result.Result.the-variants.{Ok, Err}
 use Rattle.pixel.specs.Ops.{Ops}
 use Rattle.picture.specs.declared.fault.Cause.{Cause}
 use Rattle.picture.specs.declared.fault.Cause.the-variants.{Missing, Unread, Above, NoPixel}
 use Rattle.picture.specs.declared.fault.Fault.{Fault}
-use Rattle.picture.specs.declared.fault.Refusal.{Refusal}
 use Rattle.picture.specs.declared.fault.Refusal.the-variants.{Hole}
 use Rattle.picture.specs.declared.rect.Rect.{Rect}
-use Rattle.picture.specs.Refusals.{causeNumber, faultValues, done, refused, told, outcome}
+use Rattle.picture.specs.Refusals.{causeNumber, faultValues, done, told}
 use Rattle.picture.specs.Places.{Place, pixel, hole, faultOf, orElse, firstFault}
 use Rattle.picture.specs.Images.{Image}
-use Rattle.picture.specs.Prepare.{area, nth, lined, orFault, firstIn, holed, answer, put, codeAt, coded, Shown, filled}
+use Rattle.picture.specs.Prepare.{area, nth, lined, holed, answer, put, codeAt, coded, Shown, filled}
 use Rattle.picture.proofs.Faults.{first-same}
 use Rattle.picture.proofs.Serving.{answer-is, filled-is}
 

@@ -1,19 +1,26 @@
 -- A survey of some places, and then of more.
 use mathlib.Core.Path.{_≡_, refl, sym, _∙_, ap}
-use Prim.Native.Nat.{ℕ, zero, suc, _+_, _-_, _*_, _/_, _%_, _<_, _≤_}
+use Prim.Native.Nat.{ℕ, zero, suc, _+_, _<_}
 use native.Mathlib.Nat.{add-zero, add-suc}
 use native.Mathlib.Omega.{arith}
+use native.Mathlib.Numerals.{add-one}
 use mathlib.Core.List.{List}
+use lib.ListN.{length, getD, drop}
+use Rattle.std.proofs.shelf.Lists.{drop-more}
 use Rattle.std.specs.declared.option.Option.{Option}
-use Rattle.std.specs.declared.option.Option.the-variants.{Some, None}
+use Rattle.std.specs.declared.option.Option.the-variants.{Some}
 use Rattle.pixel.specs.Ops.{Ops}
 use Rattle.picture.specs.declared.fault.Cause.{Cause}
 use Rattle.picture.specs.declared.fault.Cause.the-variants.{Missing, Unread, Above, NoPixel}
 use Rattle.picture.specs.Places.{Place, pixel, hole}
-use Rattle.picture.specs.Images.{Image}
-use Rattle.picture.specs.Prepare.{coded, lined}
+use Rattle.picture.specs.Prepare.{coded}
+use Rattle.survey.specs.declared.findings.Range.{Range}
 use Rattle.survey.specs.declared.findings.Survey.{Survey}
-use Rattle.survey.specs.Surveys.{seen, counted, noted, onward, reading}
+use Rattle.survey.specs.Surveys.{seen, wider, widened, counted, shown, noted, onward}
+
+-- one more sample
+pub widen-more : (r s : Option Range) (xs : List ℕ) (i x : ℕ) → i < length xs → s ≡ wider r x → x ≡ getD xs i 0 → widened s (drop (i + 1) xs) ≡ widened r (drop i xs)
+widen-more r s xs i x h e g = ap (λ z. widened z (drop (i + 1) xs)) (e ∙ ap (wider r) g) ∙ ap (widened r) (sym (drop-more xs i 0 h))
 
 seen-counted : (c : Cause) (s : Survey) → seen (counted c s) ≡ seen s + 1
 seen-counted Missing s = omega arith
@@ -22,9 +29,12 @@ seen-counted Above s = omega arith
 seen-counted NoPixel s = omega arith
 
 module _ {K S : Type 0} (o : Ops K S) where
-  pub seen-noted : (s : Survey) (p : Place K) → seen (noted o s p) ≡ seen s + 1
+  seen-noted : (s : Survey) (p : Place K) → seen (noted o s p) ≡ seen s + 1
   seen-noted s (pixel p) = omega arith
   seen-noted s (hole f) = seen-counted (f .cause) s
+
+  pub seen-pixel : (s t : Survey) (p : K) → t ≡ shown (o .samples p) s → seen t ≡ seen s + 1
+  seen-pixel s t p e = ap seen e ∙ seen-noted s (pixel p)
 
   -- every place is counted once
   pub seen-onward : (s : Survey) (f : ℕ → Place K) (n : ℕ) → seen (onward o s f n) ≡ seen s + n
@@ -46,3 +56,8 @@ module _ {K S : Type 0} (o : Ops K S) where
   pub coded-pixel : ((p : K) → o .decode (o .code p) ≡ Some p) → (x : Place K) (c : ℕ) (p : K) → coded o x ≡ Some c → o .decode c ≡ Some p → x ≡ pixel p
   coded-pixel d (pixel q) c p e h = let w = d q in cc
   coded-pixel d (hole f) c p e h = cc
+
+  -- one more pixel
+  pub onward-pixel : (s t u : Survey) (f : ℕ → Place K) (k : ℕ) (p : K) → t ≡ shown (o .samples p) u → u ≡ onward o s f k → f k ≡ pixel p → t ≡ onward o s f (k + 1)
+  onward-pixel s t u f k p a b e =
+      a ∙ ap (shown (o .samples p)) b ∙ ap (noted o (onward o s f k)) (sym e) ∙ ap (onward o s f) (sym (add-one k))

@@ -5,5 +5,8 @@ mod notes;
 mod surveying;
 
 pub use findings::Range;
+pub use findings::RangeDebug;
+pub use findings::RangeEq;
+pub use findings::RangePartialEq;
 pub use findings::Survey;
 pub use surveying::survey;

@@ -1,12 +1,9 @@
-use mathlib.Core.Path.{_≡_, refl, sym, _∙_, ap}
-use Prim.Native.Nat.{ℕ, suc, _+_}
-use native.Mathlib.Numerals.{add-one}
+use mathlib.Core.Path.{_≡_, sym, _∙_, ap}
 use native.Mathlib.Omega.{arith}
 use lib.ListN.{length, getD}
 use Rattle.std.specs.Options.{isSome}
-use Rattle.picture.specs.Places.{pixel}
-use Rattle.survey.specs.Surveys.{seen, shown, noted, onward}
-use Rattle.survey.proofs.Onward.{seen-noted, coded-pixel}
+use Rattle.survey.specs.Surveys.{onward}
+use Rattle.survey.proofs.Onward.{seen-pixel, coded-pixel, onward-pixel}
 use Rattle.survey.proofs.notes.note_pixels.Needs as need
 
 pub unwrap-pixel-requires : need.unwrap-pixel-requires
@@ -17,12 +14,12 @@ loop-k-again g c =
     let o = g .K·Kind .ops in
     let k = c .loop-k .k in
     let s = c .loop-k .survey in
+    let t = c .note-pixel-survey .result in
     let p = c .unwrap-pixel .result in (
-      omega (arith, ap seen (c .note-pixel-survey .ensures), seen-noted o s (pixel p), c .loop-k .inv .0),
+      omega (arith, seen-pixel o s t p (c .note-pixel-survey .ensures), c .loop-k .inv .0),
       λ f h.
           let e = coded-pixel o (g .K·Kind·met .decodes) (f k) (getD (c .args .codes .now) k 0) p (h k (c .loop-k-test .taken)) (sym (c .decode .ensures) ∙ c .unwrap-pixel .ensures) in
-          c .note-pixel-survey .ensures ∙ ap (λ x. shown (o .samples p) x) (c .loop-k .inv .1 f h) ∙ ap (noted o (onward o (c .args .survey) f k)) (sym e)
-          ∙ ap (onward o (c .args .survey) f) (sym (add-one k)),
+          onward-pixel o (c .args .survey) t s f k p (c .note-pixel-survey .ensures) (c .loop-k .inv .1 f h) e,
     )
 
 pub returns : need.returns

@@ -1,19 +1,17 @@
-use mathlib.Core.Path.{_≡_, refl, sym, _∙_, ap}
-use Prim.Native.Nat.{_<_, _≤_, _+_}
+use mathlib.Core.Path.{sym, _∙_, ap}
+use Prim.Native.Nat.{_<_, _≤_}
 use native.Mathlib.Omega.{arith}
-use lib.ListN.{length, drop}
-use Rattle.std.proofs.shelf.Lists.{drop-more, drop-all}
-use Rattle.survey.specs.Surveys.{wider, widened}
+use lib.ListN.{length}
+use Rattle.std.proofs.shelf.Lists.{drop-all}
+use Rattle.survey.specs.Surveys.{widened}
+use Rattle.survey.proofs.Onward.{widen-more}
 use Rattle.survey.proofs.notes.widen_all.Needs as need
 
 pub loop-i-again : need.loop-i-again
 loop-i-again g c =
     let xs = g .K·Kind .ops .samples (c .args .pixel) in
-    let i = c .loop-i .i in
-    let r = c .loop-i .range in
-    let h : i < length xs = omega (arith, g .K·Kind·met .deep (c .args .pixel)) in
-    ap (λ x. widened x (drop (i + 1) xs)) (c .widen-range .ensures ∙ ap (λ x. wider r x) (c .sample .ensures))
-    ∙ ap (widened r) (sym (drop-more xs i 0 h)) ∙ c .loop-i .inv
+    let h : c .loop-i .i < length xs = omega (arith, g .K·Kind·met .deep (c .args .pixel)) in
+    widen-more (c .loop-i .range) (c .widen-range .result) xs (c .loop-i .i) (c .sample .result) h (c .widen-range .ensures) (c .sample .ensures) ∙ c .loop-i .inv
 
 pub returns : need.returns
 returns g c =
