@@ -11,8 +11,17 @@ mod sizes;
 mod step;
 
 pub use fault::Cause;
+pub use fault::CauseDebug;
+pub use fault::CauseEq;
+pub use fault::CausePartialEq;
 pub use fault::Fault;
+pub use fault::FaultDebug;
+pub use fault::FaultEq;
+pub use fault::FaultPartialEq;
 pub use fault::Refusal;
+pub use fault::RefusalDebug;
+pub use fault::RefusalEq;
+pub use fault::RefusalPartialEq;
 pub use fault::Refused;
 pub use limits::LIMIT;
 pub use picture::Picture;
