@@ -41,7 +41,7 @@ fn part(text: &str, bytes: &mut Vec<u8>) -> Result<bool, AllocError> {
 }
 
 /// Bytes as parts joined by `+`; `-` is none of them.
-pub fn bytes(heap: Global, text: &str) -> Result<Option<Vec<u8>>, AllocError> {
+pub fn bytes_of(heap: Global, text: &str) -> Result<Option<Vec<u8>>, AllocError> {
     let mut found = Vec::new(heap);
     if text == "-" {
         return Ok(Some(found));

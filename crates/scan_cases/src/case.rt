@@ -1,10 +1,9 @@
 use crate::ask::demand;
-use crate::bytes::bytes;
+use crate::bytes::bytes_of;
 use crate::file::run_file;
-use crate::form::form;
+use crate::form::form_of;
 use crate::memory::Frame;
 use crate::memory::run_memory;
-use crate::outcome::Outcome;
 use crate::outcome::told;
 use crate::words::number;
 use crate::words::numbers;
@@ -26,10 +25,10 @@ fn unknown(heap: Global) -> Result<String, AllocError> {
 
 /// `KIND STORE BYTES NUMBER LEFT TOP WIDTH HEIGHT LENGTH`: opens a file.
 fn file_case(heap: Global, words: &[&str]) -> Result<String, AllocError> {
-    let Some(form) = form(heap, word(words, 1))? else {
+    let Some(form) = form_of(heap, word(words, 1))? else {
         return unknown(heap);
     };
-    let Some(bytes) = bytes(heap, word(words, 2))? else {
+    let Some(bytes) = bytes_of(heap, word(words, 2))? else {
         return unknown(heap);
     };
     let (Some(number), Some(ask)) = (number(words, 3), demand(words, 4)) else {
@@ -45,7 +44,7 @@ fn file_case(heap: Global, words: &[&str]) -> Result<String, AllocError> {
 }
 
 /// The four numbers of a picture in memory, from the third word on.
-fn frame(words: &[&str]) -> Option<Frame> {
+fn frame_of(words: &[&str]) -> Option<Frame> {
     let width = number(words, 2)?;
     let height = number(words, 3)?;
     let maxval = number(words, 4)?;
@@ -58,7 +57,7 @@ fn memory_case(heap: Global, words: &[&str]) -> Result<String, AllocError> {
     let Some(codes) = numbers(heap, word(words, 6))? else {
         return unknown(heap);
     };
-    let (Some(frame), Some(ask)) = (frame(words), demand(words, 7)) else {
+    let (Some(frame), Some(ask)) = (frame_of(words), demand(words, 7)) else {
         return unknown(heap);
     };
     let mut buffer = vec![in heap; BEFORE; ask.length]?;
@@ -70,8 +69,11 @@ fn memory_case(heap: Global, words: &[&str]) -> Result<String, AllocError> {
     told(heap, outcome, buffer.as_slice())
 }
 
-/// The line that answers a case.
+/// The line that answers a case; a title, which begins with `#`, answers itself.
 pub fn answer(heap: Global, line: &str) -> Result<String, AllocError> {
+    if line.starts_with('#') {
+        return String::from_str(heap, line);
+    }
     let words = line.split_whitespace().collect::<Vec<&str>>(heap)?;
     let words = words.as_slice();
     if word(words, 0) == "memory" {

@@ -22,7 +22,7 @@ fn joint(text: &str) -> Option<Form> {
 }
 
 /// The form that a word names: `bytes`, `sectors:K,K`, `joined:N` or `joined:N:M`.
-pub fn form(heap: Global, text: &str) -> Result<Option<Form>, AllocError> {
+pub fn form_of(heap: Global, text: &str) -> Result<Option<Form>, AllocError> {
     if text == "bytes" {
         return Ok(Some(Form::Plain));
     }

@@ -19,7 +19,7 @@ pub enum Outcome {
 }
 
 /// Why a call said no.
-fn refusal(heap: Global, refusal: Refusal) -> Result<String, AllocError> {
+fn refusal_text(heap: Global, refusal: Refusal) -> Result<String, AllocError> {
     match refusal {
         Refusal::Hole(Fault { cause, source, column, row }) => {
             let cause = cause.number();
@@ -36,24 +36,44 @@ fn refusal(heap: Global, refusal: Refusal) -> Result<String, AllocError> {
 fn answered(heap: Global, prepared: Result<(), Refusal>) -> Result<String, AllocError> {
     match prepared {
         Ok(()) => String::from_str(heap, "ok"),
-        Err(refused) => refusal(heap, refused),
+        Err(refused) => refusal_text(heap, refused),
     }
 }
 
-/// The entries of a buffer, with a space before each.
+/// Writes so many equal entries, each after a space; more than 9 as one with their number.
+fn add_run(heap: Global, text: &mut String, entry: u64, times: usize) -> Result<(), AllocError> {
+    if times > 9 {
+        let run = format!(heap, " {entry}*{times}")?;
+        return text.push_str(run.as_str());
+    }
+    let one = format!(heap, " {entry}")?;
+    for _ in 0..times {
+        text.push_str(one.as_str())?;
+    }
+    Ok(())
+}
+
+/// The entries of a buffer.
 fn listed(heap: Global, buffer: &[u64]) -> Result<String, AllocError> {
     let mut text = String::new(heap);
+    let mut last = 0;
+    let mut times: usize = 0;
     for entry in buffer {
-        text.push(' ')?;
-        text.push_str(entry.to_string(heap)?.as_str())?;
+        if *entry != last {
+            add_run(heap, &mut text, last, times)?;
+            last = *entry;
+            times = 0;
+        }
+        times = times.saturating_add(1);
     }
+    add_run(heap, &mut text, last, times)?;
     Ok(text)
 }
 
 /// The line that tells an outcome and what the buffer then held.
 pub fn told(heap: Global, outcome: Outcome, buffer: &[u64]) -> Result<String, AllocError> {
     match outcome {
-        Outcome::Refused(refused) => refusal(heap, refused),
+        Outcome::Refused(refused) => refusal_text(heap, refused),
         Outcome::Opened { size, header, prepared, count } => {
             let width = size.width;
             let height = size.height;
