@@ -4,6 +4,7 @@ use picture::Picture;
 use picture::Rect;
 use pixel::Kind;
 use source::CodeSlice;
+use source::Codes;
 use source::MemoryPicture;
 use source::MemorySource;
 use source::SliceCodes;
@@ -18,9 +19,9 @@ pub struct Frame {
 }
 
 /// Makes the picture of these codes, and prepares the rectangle if its numbers make one.
-pub fn run_memory<K: Kind>(codes: &[u64], frame: Frame, ask: Ask, buffer: &mut [u64]) -> Outcome {
+fn run<C: Codes + Drop, K: Kind>(codes: C, frame: Frame, ask: Ask, buffer: &mut [u64]) -> Outcome {
     let Frame { width, height, maxval, number } = frame;
-    match MemorySource::<CodeSlice, K>::new(CodeSlice { codes }, width, height, maxval, number) {
+    match MemorySource::<C, K>::new(codes, width, height, maxval, number) {
         Ok(mut memory) => {
             let prepared = match Rect::new(ask.left, ask.top, ask.width, ask.height) {
                 Ok(rect) => memory.prepare(rect, buffer),
@@ -32,4 +33,9 @@ pub fn run_memory<K: Kind>(codes: &[u64], frame: Frame, ask: Ask, buffer: &mut [
         }
         Err(refused) => Outcome::Refused(refused.refusal),
     }
+}
+
+/// The same with a slice of codes.
+pub fn run_memory<K: Kind>(codes: &[u64], frame: Frame, ask: Ask, buffer: &mut [u64]) -> Outcome {
+    run::<CodeSlice, K>(CodeSlice { codes }, frame, ask, buffer)
 }
