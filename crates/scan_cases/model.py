@@ -301,6 +301,10 @@ def sector_cases():
     yield file("grey", padded(b"P5", b"2 1 300\n", 2045) + b"\x02\x00\x00\x01", (0, 0, 2, 1), 3, "sectors:1")
     yield file("grey", padded(b"P5", b"2 1 300\n", 2047) + b"\x02\x00\x00\x01", (0, 0, 2, 1), 3, "sectors:1")
     yield file("grey", padded(b"P5", b"2 1 300\n", 2047) + b"\x02", (0, 0, 2, 1), 3, "sectors:1")
+    yield file("grey", padded(b"P5", b"2 1 300\n", 2048) + b"\x02", (0, 0, 2, 1), 3, "sectors:1")
+    yield file("colour", padded(b"P6", b"1 1 9\n", 2047) + b"\x02\x02", DOT, 3, "sectors:1", 8)
+    yield file("colour", padded(b"P6", b"1 1 9\n", 2047) + b"\x0a\x02", DOT, 3, "sectors:-", 8)
+    yield file("colour", padded(b"P6", b"1 1 9\n", 2047) + b"\x0a\x02\x02", DOT, 3, "sectors:1", 8)
     yield file("grey", padded(b"P5", b"2 1 300\n", 2048) + b"\x00\x01\x00\x02", (0, 0, 2, 1), 3, "sectors:1")
     yield file("grey", padded(b"P5", b"2 1 300\n", 2049) + b"\x00\x01\x00\x02", (0, 0, 2, 1), 3, "sectors:1")
 
