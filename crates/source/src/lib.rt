@@ -20,6 +20,7 @@ pub use header::HeaderError;
 pub use header::parse;
 pub use memory::CodeSlice;
 pub use memory::Codes;
+pub use memory::MemoryPicture;
 pub use memory::MemorySource;
 pub use memory::SliceCodes;
 pub use raster::Raster;
