@@ -1,11 +1,12 @@
 -- A survey of places that all miss their first byte.
 use mathlib.Core.Path.{_≡_, refl, sym, _∙_, ap}
 use mathlib.Core.Bool.{true, cond}
+use mathlib.Core.Logic.{⊎-elim}
 use Prim.Native.Nat.{ℕ, zero, suc, _+_, _-_, _*_, _/_, _%_, _<_, _≤_, min}
-use native.Mathlib.Nat.{add-zero, div-add-mod, mul-comm}
+use native.Mathlib.Nat.{add-zero, div-add-mod, div-le-self, mul-comm}
 use native.Mathlib.Omega.{arith}
 use lib.Dec.{leb}
-use Rattle.std.proofs.shelf.Tests.{le-leb}
+use Rattle.std.proofs.shelf.Tests.{cases-lt, cond-false, cond-true, le-leb, lt-leb}
 use Rattle.std.specs.declared.option.Option.{Option}
 use Rattle.std.specs.declared.option.Option.the-variants.{Some, None}
 use Rattle.pixel.specs.Ops.{Ops}
@@ -21,7 +22,7 @@ use Rattle.source.specs.Opening.{headed}
 use Rattle.picture.specs.Images.{Image}
 use Rattle.std.specs.declared.result.Result.{Result}
 use Rattle.std.specs.declared.result.Result.the-variants.{Ok}
-use Rattle.source.specs.Extent.{LostBehind}
+use Rattle.source.specs.Extent.{LostBehind, reached}
 use Rattle.survey.specs.declared.findings.Survey.{Survey}
 use Rattle.survey.specs.declared.findings.Range.{Range}
 use Rattle.survey.specs.Surveys.{counted, faulted, fresh, noted, onward, reading, surveyed}
@@ -97,3 +98,11 @@ module _ {K S : Type 0} (o : Ops K S) where
 
 pub ok-same : (h k : Header) → _≡_ {A = Result Header HeaderError} (Ok h) (Ok k) → h ≡ k
 ok-same h k e = cc
+
+-- no more pixels begin before the end than there are bytes
+pub reached-few : (start end step : ℕ) → reached start end step ≤ end
+reached-few start end step =
+  ⊎-elim
+    (λ lt. let e : reached start end step ≡ (end - start - 1) / step + 1 = cond-false (leb end start) 0 ((end - start - 1) / step + 1) (lt-leb end start lt) in omega (arith, e, div-le-self (end - start - 1) step))
+    (λ le. let e : reached start end step ≡ 0 = cond-true (leb end start) 0 ((end - start - 1) / step + 1) (le-leb end start le) in omega (arith, e))
+    (cases-lt start end)

@@ -2,9 +2,9 @@
 use mathlib.Core.Path.{_≡_}
 use mathlib.Core.Bool.{cond}
 use mathlib.Core.List.{List}
-use Prim.Native.Nat.{ℕ, _+_, _*_}
+use Prim.Native.Nat.{ℕ, _+_, _*_, _≤_}
 use lib.Dec.{eqb, leb}
-use lib.ListN.{getD}
+use lib.ListN.{getD, length}
 use Rattle.std.specs.declared.option.Option.the-variants.{Some, None}
 use Rattle.std.specs.declared.result.Result.the-variants.{Ok, Err}
 use Rattle.pixel.specs.Ops.{Ops}
@@ -51,8 +51,14 @@ module _ {K S : Type 0} (o : Ops K S) where
     × ((r : Raster) → headerOf (o .mark) (available at 0 headerLimit) ≡ Ok (headed r) → r .source ≡ 0
        → d .survey ≡ surveyed o (rasterImage o at r) (d .size .width * d .size .height))
 
+-- no more than two prepares were made for each of n bytes, and twelve more
+abbrev pub Quick : ℕ → Finding → Type 0
+Quick n (Refused e) = Unit {0}
+Quick n (Picture d) = d .prepares ≤ 2 * n + 12
+
 -- by the kind that the second byte says
 pub record Reported (bytes : List ℕ) (r : Report) : Type 0 where
   pub mark : r .mark ≡ markOf bytes
   pub asGrey : r .mark ≡ 53 → Found grey (capped (inBytes bytes)) (r .finding)
   pub asColour : r .mark ≡ 54 → Found colour (capped (inBytes bytes)) (r .finding)
+  pub quick : Quick (length bytes) (r .finding)

@@ -4,7 +4,7 @@ ghost use Rattle.store.specs.Cells.{capped};
 ghost use Rattle.source.specs.Extent.{Silent};
 ghost use Rattle.source.specs.Files.{rasterImage};
 ghost use Rattle.survey.specs.Surveys.{surveyed};
-ghost use Rattle.inspection.specs.Reports.{Found, Reported, lost};
+ghost use Rattle.inspection.specs.Reports.{Found, Quick, Reported, lost};
 use crate::report::Details;
 use crate::report::Finding;
 use crate::report::Report;
@@ -40,7 +40,8 @@ fn lose(mut survey: Survey, count: u64, fault: Fault) -> Survey
 /// Surveys a file whose store has no byte from `end` on. It prepares only places that may have one, so the work grows with the store and not with the numbers in the header.
 fn look<S: Store, K: Kind>(file: &mut FileSource<S, K>, end: u64) -> Survey
     requires { ⌜ Silent (capped (S·Store .at (now file .store))) end ⌝ }
-    ensures { λ r. ⌜ r ≡ surveyed (K·Kind .ops) (rasterImage (K·Kind .ops) (capped (S·Store .at (now (file .entry) .store))) (now (file .entry) .raster)) (now (file .entry) .raster .size .width * now (file .entry) .raster .size .height) ⌝ }
+    ensures value { λ r. ⌜ r ≡ surveyed (K·Kind .ops) (rasterImage (K·Kind .ops) (capped (S·Store .at (now (file .entry) .store))) (now (file .entry) .raster)) (now (file .entry) .raster .size .width * now (file .entry) .raster .size .height) ⌝ }
+    ensures quick { λ _. ⌜ now (file .exit) .count ≤ now (file .entry) .count + 2 * end + 12 ⌝ }
 {
     let raster = file.raster();
     let wide = raster.size.width as u64;
@@ -52,17 +53,28 @@ fn look<S: Store, K: Kind>(file: &mut FileSource<S, K>, end: u64) -> Survey
     lose(found, total - places, Fault { cause: Cause::Missing, source: raster.source, column, row })
 }
 
+/// What is to be told of an opened file whose store has no byte from `end` on.
+fn tell<S: Store, K: Kind>(file: &mut FileSource<S, K>, end: u64) -> Details
+    requires { ⌜ Silent (capped (S·Store .at (now file .store))) end ⌝ }
+    ensures size { λ r. ⌜ r .size ≡ now (file .entry) .raster .size ⌝ }
+    ensures header { λ r. ⌜ r .header ≡ now (file .entry) .raster .start ⌝ }
+    ensures prepares { λ r. ⌜ r .prepares ≡ now (file .exit) .count ⌝ }
+    ensures survey { λ r. ⌜ r .survey ≡ surveyed (K·Kind .ops) (rasterImage (K·Kind .ops) (capped (S·Store .at (now (file .entry) .store))) (now (file .entry) .raster)) (now (file .entry) .raster .size .width * now (file .entry) .raster .size .height) ⌝ }
+    ensures quick { λ r. ⌜ r .prepares ≤ now (file .entry) .count + 2 * end + 12 ⌝ }
+{
+    let raster = file.raster();
+    let survey = look(file, end);
+    Details { size: raster.size, header: raster.start, prepares: file.count(), survey }
+}
+
 /// Whether a store that has no byte from `end` on has a picture of this kind, and what is to be told of it.
 fn judge<S: Store + Drop, K: Kind>(store: S, end: u64) -> Finding
     requires { ⌜ Silent (capped (S·Store .at store)) end ⌝ }
-    ensures { λ r. ⌜ Found (K·Kind .ops) (capped (S·Store .at store)) r ⌝ }
+    ensures found { λ r. ⌜ Found (K·Kind .ops) (capped (S·Store .at store)) r ⌝ }
+    ensures quick { λ r. ⌜ Quick end r ⌝ }
 {
     match FileSource::<S, K>::open(store, 0) {
-        Ok(mut file) => {
-            let raster = file.raster();
-            let survey = look(&mut file, end);
-            Finding::Picture(Details { size: raster.size, header: raster.start, prepares: file.count(), survey })
-        }
+        Ok(mut file) => Finding::Picture(tell(&mut file, end)),
         Err(refused) => match read_header(&refused.back, K::mark()) {
             Ok(_) => unreachable(),
             Err(error) => Finding::Refused(error),

@@ -21,5 +21,6 @@ returns-else-bytes-gt1 c =
     | else-bytes-gt1·by·else-bytes-gt1 w ↦ not-six (getD (c .args .bytes .now) 1 0) (λ q. omega (arith, getD-past (c .args .bytes .now) 1 0 (w .if-bytes-gt1 .left))) ] in
   record {
     mark = sym (cond-false (eqb (getD (c .args .bytes .now) 1 0) 54) 54 53 e);
-    asGrey = λ _. c .judge-else-bytes-gt1 .ensures;
-    asColour = λ q. absurd (omega arith) }
+    asGrey = λ _. c .judge-else-bytes-gt1 .ensures .found;
+    asColour = λ q. absurd (omega arith);
+    quick = c .judge-else-bytes-gt1 .ensures .quick }
