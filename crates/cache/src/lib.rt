@@ -1,0 +1,19 @@
+//! A picture that keeps tiles of the picture below.
+
+mod blit;
+mod cache;
+mod counts;
+mod held;
+mod laws;
+mod order;
+mod shape;
+mod shapes;
+mod tile;
+mod tiles;
+mod visit;
+mod walk;
+
+pub use cache::Cache;
+pub use cache::CachePicture;
+pub use counts::Counts;
+pub use shape::TileShape;

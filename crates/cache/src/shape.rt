@@ -1,0 +1,14 @@
+ghost use Prim.Native.Nat.{_*_, _≤_};
+
+/// The sides of a cache's tiles, and how many it holds.
+#[derive(Clone, Copy, PartialEq, Eq, Debug)]
+pub struct TileShape {
+    pub width: u32,
+    pub height: u32,
+    pub slots: usize,
+    ghost wide: { 1 ≤ width },
+    ghost high: { 1 ≤ height },
+    ghost small: { width * height ≤ 256 },
+    ghost some: { 1 ≤ slots },
+    ghost few: { slots ≤ 16 },
+}
