@@ -1,0 +1,4 @@
+mod Moving
+mod Listing
+mod Pixels
+mod Overlaying

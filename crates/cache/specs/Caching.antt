@@ -50,7 +50,7 @@ module _ {P K S : Type 0} (o : Ops K S) (model : P → Model K) (count : P → �
   pub record Made (s : TileShape) (p : P) (c : Cache P) : Type 0 where
     pub below : c .below ≡ p
     pub shape : c .shape ≡ s
-    pub count : c .count ≡ 0
+    pub counted : c .count ≡ 0
     pub machine : stateOf count c ≡ fresh (count p)
     pub stays : Sound o model sound c
 

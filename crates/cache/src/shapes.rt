@@ -9,9 +9,7 @@ impl TileShape {
     {
         if width < 1
             || height < 1
-            || width > 256
-            || height > 256
-            || width * height > 256
+            || width as u64 * height as u64 > 256
             || slots < 1
             || slots > 16
         {
