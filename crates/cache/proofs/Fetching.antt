@@ -1,13 +1,13 @@
 -- A tile that is visited: a hit, a fetch, or a refusal.
-use mathlib.Core.Path.{_≡_, refl, sym, _∙_, ap}
+use mathlib.Core.Path.{_≡_, refl, sym, _∙_, ap, subst}
 use mathlib.Core.Bool.{true, false, cond, not}
 use mathlib.Core.List.{List}
 use mathlib.Core.Logic.{_⊎_, inl, inr, ⊎-elim}
-use Prim.Native.Nat.{ℕ, _+_, _*_, _/_, _%_, _<_, _≤_, min}
+use Prim.Native.Nat.{ℕ, _+_, _-_, _*_, _/_, _%_, _<_, _≤_, min}
 use native.Mathlib.Omega.{arith}
-use lib.ListN.{length, getD}
+use lib.ListN.{length, getD, take, drop}
 use borrow.Rule.Slice.PartMut.{putMid}
-use Rattle.std.proofs.shelf.Lists.{getD-set-same}
+use Rattle.std.proofs.shelf.Lists.{getD-set-same, length-take-le, length-drop}
 use Rattle.std.proofs.shelf.Tests.{cond-true, cond-false, cases-lt}
 use Rattle.std.specs.Options.{isSome}
 use Rattle.pixel.specs.Ops.{Ops}
@@ -27,13 +27,17 @@ use Rattle.cache.specs.Grid.{Covers, tileWidth, tileNth, whole}
 use Rattle.cache.specs.Slots.{base, state, again, entered, admitted, holding, Front, Ready}
 use Rattle.cache.proofs.Listing.{same-is, listed-hit, listed-miss, listed-fetched}
 use Rattle.cache.proofs.Pixels.{answered, refuses}
-use Rattle.cache.proofs.Keeping.{long, ready-holding, ready-admitted, fresh, small-area}
+use Rattle.cache.proofs.Keeping.{long, spare, ready-holding, ready-admitted, fresh, small-area}
 
 -- states that differ in the list and below's count
 stated : (ts ts′ : List Tile) (h f y a a′ : ℕ) → ts ≡ ts′ → a ≡ a′
     → _≡_ {A = State} (record { tiles = ts; hits = h; fetches = f; bypasses = y; asked = a }) (record { tiles = ts′; hits = h; fetches = f; bypasses = y; asked = a′ })
 stated ts ts′ h f y a a′ p q =
     ap (λ x. record { tiles = x; hits = h; fetches = f; bypasses = y; asked = a }) p ∙ ap (λ x. record { tiles = ts′; hits = h; fetches = f; bypasses = y; asked = x }) q
+
+-- in a picture of the same size
+pub covers-in : (s : TileShape) (W H W′ H′ : ℕ) (x : Tile) (rect : Rect) → W ≡ W′ → H ≡ H′ → Covers s W H x rect → Covers s W′ H′ x rect
+covers-in s W H W′ H′ x rect p q h = subst (λ w. Covers s w H′ x rect) p (subst (λ v. Covers s W v x rect) q h)
 
 module _ {K S : Type 0} (o : Ops K S) (b : Image K) (s : TileShape) (t : Tiles) (ready : Ready o b s t) (x : Tile) where
   room : t .len ≤ length (t .held)
@@ -69,6 +73,13 @@ module _ {K S : Type 0} (o : Ops K S) (b : Image K) (s : TileShape) (t : Tiles) 
   front-admitted es =
       let e = getD-set-same (t .held) (t .len) (entered t x) none (long o b s t ready) in
       record { some = omega (arith, s .some); at = ap (λ (h : Held). h .tile) e }
+
+  -- the part of the entries that a fetch writes
+  pub part-length : (rect : Rect) (n : ℕ) → Covers s (b .width) (b .height) x rect → n ≡ area rect
+      → let a = base (slotAt (t .held) (t .len)) in length (take (a + n - a) (drop a (t .entries))) ≡ a + n - a
+  part-length rect n covers e =
+      let a = base (slotAt (t .held) (t .len)) in
+      length-take-le (a + n - a) (drop a (t .entries)) (omega (arith, length-drop a (t .entries), spare o b s t ready, small-area o b s t ready x rect covers, ready .room))
 
   module _ (rect : Rect) (buf ys : List ℕ) (k : ℕ) (covers : Covers s (b .width) (b .height) x rect) (u : x .column * s .width < b .width) (v : x .row * s .height < b .height)
     (n : length buf ≡ k) (m : length ys ≡ k) (a : k ≡ area rect) where
