@@ -128,18 +128,20 @@ module _ {K S : Type 0} (o : Ops K S) (b : Image K) (s : TileShape) where
         away (λ wc. nx (in-div x (s .width) (c .column) (omega (arith, covers .left, wc .left)) (omega (arith, covers .left, covers .width, wc .right)))) (λ q. nx (column q)))
         (cases-eq X (c .column))
 
--- the k-th tile that is touched, from the numbers that the walk has computed
-module _ (s : TileShape) (rect : Rect) (k a d : ℕ) (ea : a ≡ across s rect) (ed : d ≡ down s rect) (lt : k < a * d) (some : 1 ≤ a) where
-  pub touched-across : (rect .left / s .width + k % a) * s .width < rect .left + rect .width
-  touched-across = span-in (rect .left) (rect .width) (s .width) (k % a) (rect .wide) (s .wide) (omega (arith, mod-below k a some, ea))
+-- the k-th tile that is touched, from the numbers that the walk has computed: it begins in the picture, and it is the machine's
+pub record Kth (s : TileShape) (rect : Rect) (k a : ℕ) : Type 0 where
+  pub left : (rect .left / s .width + k % a) * s .width < rect .left + rect .width
+  pub top : (rect .top / s .height + k / a) * s .height < rect .top + rect .height
+  pub is : _≡_ {A = Tile} (record { column = rect .left / s .width + k % a; row = rect .top / s .height + k / a }) (touched s rect k)
+  pub next : k + 1 ≤ across s rect * down s rect
 
-  pub touched-down : (rect .top / s .height + k / a) * s .height < rect .top + rect .height
-  touched-down =
-      let l : k < d * a = omega (arith, mul-comm a d) in
-      span-in (rect .top) (rect .height) (s .height) (k / a) (rect .high) (s .high) (omega (arith, div-below k a d some l, ed))
-
-  pub touched-is : _≡_ {A = Tile} (record { column = rect .left / s .width + k % a; row = rect .top / s .height + k / a }) (touched s rect k)
-  touched-is = ap (λ n. record { column = rect .left / s .width + k % n; row = rect .top / s .height + k / n }) ea
-
-  pub touched-next : k + 1 ≤ across s rect * down s rect
-  touched-next = let e : a * d ≡ across s rect * down s rect = ap (λ n. n * d) ea ∙ ap (λ n. across s rect * n) ed in omega arith
+pub kth : (s : TileShape) (rect : Rect) (k a d : ℕ) → a ≡ across s rect → d ≡ down s rect → k < a * d → 1 ≤ a → Kth s rect k a
+kth s rect k a d ea ed lt some =
+    let l : k < d * a = omega (arith, mul-comm a d) in
+    let e : a * d ≡ across s rect * down s rect = ap (λ n. n * d) ea ∙ ap (λ n. across s rect * n) ed in
+    record {
+      left = span-in (rect .left) (rect .width) (s .width) (k % a) (rect .wide) (s .wide) (omega (arith, mod-below k a some, ea));
+      top = span-in (rect .top) (rect .height) (s .height) (k / a) (rect .high) (s .high) (omega (arith, div-below k a d some l, ed));
+      is = ap (λ n. record { column = rect .left / s .width + k % n; row = rect .top / s .height + k / n }) ea;
+      next = omega arith;
+    }

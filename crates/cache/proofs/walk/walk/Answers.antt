@@ -1,21 +1,20 @@
-use borrow.Author.Needs.{needs}
 use mathlib.Core.Path.{_≡_, sym, _∙_, ap, subst}
 use Prim.Native.Nat.{ℕ, _+_, _*_, _/_, _%_, _<_, _≤_}
 use native.Mathlib.Omega.{arith}
 use Rattle.picture.specs.Images.{Model}
 use Rattle.cache.specs.declared.tile.Tile.{Tile}
 use Rattle.cache.specs.Machine.{going, ended, visited}
-use Rattle.cache.specs.Grid.{Covers, whole, touched, across, down}
+use Rattle.cache.specs.Grid.{whole, touched, across, down}
 use Rattle.cache.specs.Slots.{Ready, state}
 use Rattle.cache.proofs.Keeping.{small-area}
 use Rattle.cache.proofs.Fetching.{covers-in}
-use Rattle.cache.proofs.Walking.{served-more, walk-more, walk-ends, touched-across, touched-down, touched-is, touched-next}
+use Rattle.cache.proofs.Walking.{Kth, kth, served-more, walk-more, walk-ends}
 use Rattle.cache.proofs.walk.walk.Needs as need
 
 pub visit-requires : need.visit-requires
 visit-requires g c κs =
     let w = c .loop-k .inv .0 in
-    let m = Model (g .P·Pixel .Denot) in
+    let q = kth (c .args .shape) (c .args .rect) (c .loop-k .k) _ _ (c .reach-across .ensures .is) (c .reach-down .ensures .is) (c .loop-k-test .taken) (c .reach-across .ensures .some) in
     record {
       stands = record {
         below = w .below;
@@ -23,6 +22,82 @@ visit-requires g c κs =
         wide = c .pre .stands .wide ∙ ap (λ (m : Model (g .P·Pixel .Denot)). m .shown .width) (sym (w .keeps));
         high = c .pre .stands .high ∙ ap (λ (m : Model (g .P·Pixel .Denot)). m .shown .height) (sym (w .keeps));
       };
-      across = omega (arith, c .pre .across, touched-across (c .args .shape) (c .args .rect) (c .loop-k .k) _ _ (c .reach-across .ensures .is) (c .reach-down .ensures .is) (c .loop-k-test .taken) (c .reach-across .ensures .some));
-      down = omega (arith, c .pre .down, touched-down (c .args .shape) (c .args .rect) (c .loop-k .k) _ _ (c .reach-across .ensures .is) (c .reach-down .ensures .is) (c .loop-k-test .taken) (c .reach-across .ensures .some));
+      across = omega (arith, c .pre .across, q .left);
+      down = omega (arith, c .pre .down, q .top);
     }
+
+pub cell-place-requires : need.cell-place-requires
+cell-place-requires g c κs =
+    let q = kth (c .args .shape) (c .args .rect) (c .loop-k .k) _ _ (c .reach-across .ensures .is) (c .reach-down .ensures .is) (c .loop-k-test .taken) (c .reach-across .ensures .some) in
+    record { across = omega (arith, c .pre .across, q .left); down = omega (arith, c .pre .down, q .top) }
+
+pub overlay-requires : need.overlay-requires
+overlay-requires g c κs =
+    let w = c .visit .ensures .went in
+    let m = g .P·Picture .model (c .visit .last .below) .shown in
+    let keeps = w .keeps ∙ c .loop-k .inv .0 .keeps in
+    let wide : c .args .size .width ≡ m .width = c .pre .stands .wide ∙ ap (λ (v : Model (g .P·Pixel .Denot)). v .shown .width) (sym keeps) in
+    let high : c .args .size .height ≡ m .height = c .pre .stands .high ∙ ap (λ (v : Model (g .P·Pixel .Denot)). v .shown .height) (sym keeps) in
+    let covers = covers-in (c .args .shape) _ _ _ _ _ (c .cell-place .result) wide high (c .cell-place .ensures) in
+    record {
+      from = omega (arith, w .ready .room, w .ready .own 0 (omega arith), small-area _ m (c .args .shape) _ (w .ready) _ (c .cell-place .result) covers);
+      to = omega (arith, c .pre .room, c .loop-k .kept .buffer);
+    }
+
+pub returns-then-not-visit : need.returns-then-not-visit
+returns-then-not-visit g c =
+    let b = g .P·Picture .model (c .args .below .now) .shown in
+    let s = c .args .shape in
+    let rect = c .args .rect in
+    let k = c .loop-k .k in
+    let n = c .reach-across .result in
+    let t : Tile = record { column = rect .left / s .width + k % n; row = rect .top / s .height + k / n } in
+    let st = state (c .loop-k .tiles) (g .P·Picture .count (c .loop-k .below)) in
+    let s0 = state (c .args .tiles .now) (g .P·Picture .count (c .args .below .now)) in
+    let st′ = state (c .visit .last .tiles) (g .P·Picture .count (c .visit .last .below)) in
+    let q = kth s rect k n _ (c .reach-across .ensures .is) (c .reach-down .ensures .is) (c .loop-k-test .taken) (c .reach-across .ensures .some) in
+    let v = c .loop-k .inv .0 in
+    let w = c .visit .ensures .went in
+    let m : ended st′ ≡ visited (s .slots) (whole b s) st (touched s rect k) =
+    c .if-not-visit .ensures tt .went .machine ∙ ap (λ (x : Model (g .P·Pixel .Denot)). visited (s .slots) (whole (x .shown) s) st t) (v .keeps)
+    ∙ ap (λ x. visited (s .slots) (whole b s) st x) (q .is) in
+    record {
+      went = record {
+        machine = sym (walk-ends (s .slots) (whole b s) (touched s rect) s0 (k + 1) (across s rect * down s rect) st′ (q .next) (walk-more (s .slots) (whole b s) (touched s rect) s0 k st (ended st′) (sym (v .machine)) m));
+        keeps = w .keeps ∙ v .keeps;
+        below = w .below;
+        ready = w .ready;
+      };
+      served = λ h. let z : _≡_ {A = ℕ} 0 1 = cc in absurd (omega arith);
+      rest = c .loop-k .inv .2;
+    }
+
+pub loop-k-again : need.loop-k-again
+loop-k-again g c =
+    let o = g .Pixel·Kind .ops in
+    let b = g .P·Picture .model (c .args .below .now) .shown in
+    let s = c .args .shape in
+    let rect = c .args .rect in
+    let k = c .loop-k .k in
+    let n = c .reach-across .result in
+    let t : Tile = record { column = rect .left / s .width + k % n; row = rect .top / s .height + k / n } in
+    let st = state (c .loop-k .tiles) (g .P·Picture .count (c .loop-k .below)) in
+    let s0 = state (c .args .tiles .now) (g .P·Picture .count (c .args .below .now)) in
+    let st′ = state (c .visit .last .tiles) (g .P·Picture .count (c .visit .last .below)) in
+    let q = kth s rect k n _ (c .reach-across .ensures .is) (c .reach-down .ensures .is) (c .loop-k-test .taken) (c .reach-across .ensures .some) in
+    let v = c .loop-k .inv .0 in
+    let w = c .visit .ensures .went in
+    let m : going st′ ≡ visited (s .slots) (whole b s) st (touched s rect k) =
+    c .if-not-visit .ensures tt .went .machine ∙ ap (λ (x : Model (g .P·Pixel .Denot)). visited (s .slots) (whole (x .shown) s) st t) (v .keeps)
+    ∙ ap (λ x. visited (s .slots) (whole b s) st x) (q .is) in
+    let ready : Ready o b s (c .visit .last .tiles) = subst (λ (x : Model (g .P·Pixel .Denot)). Ready o (x .shown) s (c .visit .last .tiles)) (w .keeps ∙ v .keeps) (w .ready) in
+    let covers = covers-in s _ _ _ _ t (c .cell-place .result) (c .pre .stands .wide) (c .pre .stands .high) (c .cell-place .ensures) in
+    ( record {
+        machine = sym (walk-more (s .slots) (whole b s) (touched s rect) s0 k st (going st′) (sym (v .machine)) m);
+        keeps = w .keeps ∙ v .keeps;
+        below = w .below;
+        ready = w .ready;
+      }
+    , served-more o b s rect (omega (arith, c .pre .across, c .pre .stands .wide)) (omega (arith, c .pre .down, c .pre .stands .high)) (c .visit .last .tiles) k t (c .cell-place .result) (c .loop-k .buffer) (c .overlay .last .to) ready (q .is)
+      (c .visit .ensures .front (c .if-not-visit .left)) covers (c .overlay .ensures) (c .loop-k .inv .1)
+    , λ j h. c .overlay .ensures .rest j h ∙ c .loop-k .inv .2 j h )

@@ -1,0 +1,76 @@
+-- A prepare by tiles: what it answers, and what the machine has done.
+use mathlib.Core.Path.{_≡_, sym, _∙_, ap}
+use mathlib.Core.Bool.{true, false, _&&_}
+use mathlib.Core.List.{List}
+use Prim.Native.Nat.{ℕ, _+_, _-_, _*_, _/_, _%_, _<_, _≤_}
+use native.Mathlib.Omega.{arith}
+use native.Mathlib.Nat.{mul-comm}
+use lib.Dec.{leb}
+use lib.ListN.{getD, length, drop}
+use Rattle.std.proofs.shelf.Bits.{mul-add-lt, mod-below, div-below, div-add-mod'}
+use Rattle.std.proofs.shelf.Lists.{ext-getD, getD-drop, length-drop}
+use Rattle.std.proofs.shelf.Tests.{and-from, le-leb, cond-true}
+use Rattle.std.specs.declared.option.Option.the-variants.{Some}
+use Rattle.pixel.specs.Ops.{Ops}
+use Rattle.picture.specs.declared.rect.Rect.{Rect}
+use Rattle.picture.specs.Refusals.{done}
+use Rattle.picture.specs.Images.{Image}
+use Rattle.picture.specs.Prepare.{up, area, inside, nth, answer, Shown, filled}
+use Rattle.picture.specs.Region.{Within}
+use Rattle.cache.specs.declared.shape.TileShape.{TileShape}
+use Rattle.cache.specs.declared.tiles.Tiles.{Tiles}
+use Rattle.cache.specs.Machine.{State, Walk, ended, settled}
+use Rattle.cache.specs.Grid.{across, down}
+use Rattle.cache.specs.Boxes.{spot, Beyond}
+use Rattle.cache.specs.Slots.{state, Ready}
+use Rattle.cache.specs.Walks.{overTiles, Served}
+use Rattle.cache.specs.Caching.{prepared}
+use Rattle.cache.proofs.Pixels.{serves, filled-over}
+use Rattle.cache.proofs.Walking.{span-of}
+
+beyond-drop : (rect : Rect) (was to : List ℕ) → length to ≡ length was → Beyond rect was to → drop (area rect) to ≡ drop (area rect) was
+beyond-drop rect was to len h =
+    ext-getD 0 (drop (area rect) to) (drop (area rect) was) (length-drop (area rect) to ∙ ap (λ n. n - area rect) len ∙ sym (length-drop (area rect) was))
+    (λ i lt. getD-drop (area rect) to i 0 ∙ h (area rect + i) (omega arith) ∙ sym (getD-drop (area rect) was i 0))
+
+module _ {K S : Type 0} (o : Ops K S) (b : Image K) (s : TileShape) (rect : Rect) where
+  -- a place is served by its number
+  served-each : (to : List ℕ) → Served o b s rect to (across s rect * down s rect) → Shown o (nth b rect) (area rect) to
+  served-each to h k lt =
+      let w = rect .width in
+      let col : k % w < w = mod-below k w (rect .wide) in
+      let line : k / w < rect .height = div-below k w (rect .height) (rect .wide) (omega (arith, mul-comm (rect .height) w)) in
+      let x = rect .left + k % w in
+      let y = rect .top + k / w in
+      let within : Within rect x y = record { left = omega arith; top = omega arith; right = omega arith; bottom = omega arith } in
+      let sx = span-of (rect .left) w (s .width) x (s .wide) (within .left) (within .right) in
+      let sy = span-of (rect .top) (rect .height) (s .height) y (s .high) (within .top) (within .bottom) in
+      let index = mul-add-lt (y / s .height - rect .top / s .height) (across s rect) (x / s .width - rect .left / s .width) (down s rect) (sy .0) (sx .0) in
+      let e : spot rect x y ≡ k =
+      ap (λ n. n * w + (x - rect .left)) (omega arith) ∙ ap (λ n. k / w * w + n) (omega arith) ∙ div-add-mod' k w in
+      h x y within index ∙ ap (λ n. Some (getD to n 0)) e
+
+  module _ (buf : List ℕ) (x : rect .left + rect .width ≤ b .width) (y : rect .top + rect .height ≤ b .height) (z : area rect ≤ length buf) where
+    -- past the refusals 10 and 11
+    pub past : (inside b rect && leb (area rect) (length buf)) ≡ true
+    past = and-from _ _ (and-from _ _ (le-leb _ _ x) (le-leb _ _ y)) (le-leb _ _ z)
+
+    pub machine : (w : Walk) (st : State) → w ≡ overTiles b s rect st → settled w ≡ prepared b s rect (length buf) st
+    machine w st e = ap settled e ∙ sym (cond-true (inside b rect && leb (area rect) (length buf)) _ _ past)
+
+    pub by-tiles : (to : List ℕ) → length to ≡ length buf → Beyond rect buf to → Served o b s rect to (across s rect * down s rect)
+        → (done ≡ answer b rect (length buf)) × (to ≡ filled o b rect buf)
+    by-tiles to len beyond served = serves o b rect buf x y z to len (served-each to served) (beyond-drop rect buf to len beyond)
+
+    pub by-below : (to : List ℕ) → length to ≡ length buf → Beyond rect buf to → filled o b rect to ≡ filled o b rect buf
+    by-below to len beyond = filled-over o b rect buf x y z to len (beyond-drop rect buf to len beyond)
+
+-- the slots with another count of bypasses
+abbrev pub counting : Tiles → ℕ → Tiles
+counting t n = record { held = t .held; len = t .len; entries = t .entries; hits = t .hits; fetches = t .fetches; bypasses = n }
+
+pub bypass-ready : {K S : Type 0} (o : Ops K S) (b : Image K) (s : TileShape) (t : Tiles) (n : ℕ) → Ready o b s t → Ready o b s (counting t n)
+bypass-ready o b s t n h = record { few = h .few; long = h .long; room = h .room; own = h .own; apart = h .apart; good = h .good }
+
+pub bypass-state : (t : Tiles) (n n′ y : ℕ) → y ≡ up (t .bypasses) → n′ ≡ up n → state (counting t y) n′ ≡ settled (ended (state t n))
+bypass-state t n n′ y e f = ap (λ v. state (counting t v) n′) e ∙ ap (λ v. state (counting t (up (t .bypasses))) v) f
