@@ -90,7 +90,7 @@ FewIn n (ended s) = length (s .tiles) ≤ n
 -- a walk that ended has asked once more than it has counted
 abbrev Owes : State → State → Type 0
 Owes s t = t .asked < 2 ^ 64 - 1 → t .fetches < 2 ^ 64 - 1 → t .bypasses < 2 ^ 64 - 1
-  → t .asked + s .fetches + 2 * s .bypasses ≡ s .asked + t .fetches + 2 * t .bypasses + 1
+    → t .asked + s .fetches + 2 * s .bypasses ≡ s .asked + t .fetches + 2 * t .bypasses + 1
 
 abbrev AccountsIn : State → Walk → Type 0
 AccountsIn s (going t) = Accounts s t

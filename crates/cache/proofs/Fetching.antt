@@ -82,7 +82,7 @@ module _ {K S : Type 0} (o : Ops K S) (b : Image K) (s : TileShape) (t : Tiles) 
       length-take-le (a + n - a) (drop a (t .entries)) (omega (arith, length-drop a (t .entries), spare o b s t ready, small-area o b s t ready x rect covers, ready .room))
 
   module _ (rect : Rect) (buf ys : List ℕ) (k : ℕ) (covers : Covers s (b .width) (b .height) x rect) (u : x .column * s .width < b .width) (v : x .row * s .height < b .height)
-    (n : length buf ≡ k) (m : length ys ≡ k) (a : k ≡ area rect) where
+      (n : length buf ≡ k) (m : length ys ≡ k) (a : k ≡ area rect) where
     across : rect .left + rect .width ≤ b .width
     across = omega (arith, covers .left, covers .width)
 
@@ -106,9 +106,10 @@ module _ {K S : Type 0} (o : Ops K S) (b : Image K) (s : TileShape) (t : Tiles) 
         → (whole b s x ≡ true) × Ready o b s (admitted (s .slots) x (holding t (putMid (base (slotAt (t .held) (t .len))) k (t .entries) ys)))
     fetched-ok h e =
         let es : List ℕ = putMid (base (slotAt (t .held) (t .len))) k (t .entries) ys in
-        let w = answered o b rect buf across down (omega arith) ys h e in
-        ( sym whole-is ∙ ap (λ f. not (isSome f)) (w .0)
-        , ready-admitted o b s (holding t es) (ready-holding o b s t ready k ys m small) x (fresh o b s t ready x rect covers k ys a m (w .1)) )
+        let w = answered o b rect buf across down (omega arith) ys h e in (
+          sym whole-is ∙ ap (λ f. not (isSome f)) (w .0),
+          ready-admitted o b s (holding t es) (ready-holding o b s t ready k ys m small) x (fresh o b s t ready x rect covers k ys a m (w .1)),
+        )
 
     pub fetched-err : (number : ℕ) (values : List ℕ) → refused number values ≡ answer b rect (length buf)
         → (whole b s x ≡ false) × Ready o b s (holding t (putMid (base (slotAt (t .held) (t .len))) k (t .entries) ys))

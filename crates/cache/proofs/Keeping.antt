@@ -111,13 +111,13 @@ module _ {K S : Type 0} (o : Ops K S) (b : Image K) (s : TileShape) where
           own = ready .own;
           apart = ready .apart;
           good = λ j lj x y lx ly.
-            let h = getD (t .held) j none in
-            let m = y * tileWidth b s (h .tile) + x in
-            let small : m < 256 = in-slot (h .tile) x y lx ly in
-            let ne : h .slot ≡ free → ⊥ = λ e. let q : j ≡ t .len = ready .apart j (t .len) (omega (arith, ready .few, s .few)) (omega (arith, ready .few, s .few)) e in omega arith in
-            let away : (base (h .slot) + m < base free) ⊎ (base free + k ≤ base (h .slot) + m) =
-            ⊎-elim (λ (l : h .slot < free). inl (omega arith)) (λ (l : free ≤ h .slot). inr (omega arith)) (cases-lt (h .slot) free) in
-            ready .good j lj x y lx ly ∙ ap Some (sym (outside _ k (base (h .slot) + m) (t .entries) ys n a away));
+              let h = getD (t .held) j none in
+              let m = y * tileWidth b s (h .tile) + x in
+              let small : m < 256 = in-slot (h .tile) x y lx ly in
+              let ne : h .slot ≡ free → ⊥ = λ e. let q : j ≡ t .len = ready .apart j (t .len) (omega (arith, ready .few, s .few)) (omega (arith, ready .few, s .few)) e in omega arith in
+              let away : (base (h .slot) + m < base free) ⊎ (base free + k ≤ base (h .slot) + m) =
+              ⊎-elim (λ (l : h .slot < free). inl (omega arith)) (λ (l : free ≤ h .slot). inr (omega arith)) (cases-lt (h .slot) free) in
+              ready .good j lj x y lx ly ∙ ap Some (sym (outside _ k (base (h .slot) + m) (t .entries) ys n a away));
         }
 
     good-at : (x : Tile) → Good o b s (t .entries) (entered t x)

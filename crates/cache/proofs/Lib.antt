@@ -5,6 +5,6 @@ mod Keeping
 mod Fetching
 mod Overlaying
 mod Walking
-mod Preparing
 mod Accounting
+mod Preparing
 mod Recent

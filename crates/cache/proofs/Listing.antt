@@ -58,13 +58,14 @@ module _ (hs : List Held) (len : ℕ) (t : Tile) (long : len ≤ length hs) wher
       let m : suc (len - 1) ≡ len = omega arith in
       let p : take len (promoted hs i) ≡ getD hs i none ∷ (take i (take len hs) ++ drop (suc i) (take len hs)) =
       ap (λ n. take n (promoted hs i)) (sym m) ∙ ap (λ l. getD hs i none ∷ l) (take-removed hs i (len - 1) (omega arith) (omega arith))
-      ∙ ap (λ n. getD hs i none ∷ (take i (take n hs) ++ drop (suc i) (take n hs))) m in
-      ( w .0
-      , ap (map tileOf) p ∙ ap (λ l. tileAt hs i ∷ l) (map-append tileOf (take i (take len hs)) (drop (suc i) (take len hs)))
-        ∙ ap (λ l. tileAt hs i ∷ (l ++ map tileOf (drop (suc i) (take len hs)))) (sym (take-map tileOf i (take len hs)))
-        ∙ ap (λ l. tileAt hs i ∷ (take i (listed hs len) ++ l)) (sym (drop-map tileOf (suc i) (take len hs)))
-        ∙ ap (λ l. tileAt hs i ∷ l) (sym (w .1))
-        ∙ ap (λ x. x ∷ without (listed hs len) t) (same-is _ _ at) )
+      ∙ ap (λ n. getD hs i none ∷ (take i (take n hs) ++ drop (suc i) (take n hs))) m in (
+        w .0,
+        ap (map tileOf) p ∙ ap (λ l. tileAt hs i ∷ l) (map-append tileOf (take i (take len hs)) (drop (suc i) (take len hs)))
+            ∙ ap (λ l. tileAt hs i ∷ (l ++ map tileOf (drop (suc i) (take len hs)))) (sym (take-map tileOf i (take len hs)))
+            ∙ ap (λ l. tileAt hs i ∷ (take i (listed hs len) ++ l)) (sym (drop-map tileOf (suc i) (take len hs)))
+            ∙ ap (λ l. tileAt hs i ∷ l) (sym (w .1))
+            ∙ ap (λ x. x ∷ without (listed hs len) t) (same-is _ _ at),
+      )
 
   pub listed-miss : ((k : ℕ) → k < len → same (tileAt hs k) t ≡ false) → lists (listed hs len) t ≡ false
   listed-miss h = missed (listed hs len) t (none .tile) (λ k lt. let l : k < len = omega (arith, length-listed) in ap (λ x. same x t) (listed-at k l) ∙ h k l)

@@ -63,9 +63,10 @@ module _ {K S : Type 0} (o : Ops K S) where
     answered codes h c =
         let f : ℕ → ℕ = λ k. codeAt o (nth b r k) in
         let none : firstFault (nth b r) (area r) ≡ None = holed-none _ (h ∙ answer-is b r (length buf) x y z) in
-        let wrote : codes ≡ put None f (area r) buf = c ∙ filled-is o b r buf x y z ∙ ap (λ v. put v f (area r) buf) none in
-        ( none
-        , λ k lt. clean-coded (nth b r k) (none-each (nth b r) (area r) none k lt) ∙ ap Some (sym (ap (λ l. getD l k 0) wrote ∙ put-at f (area r) k buf lt)) )
+        let wrote : codes ≡ put None f (area r) buf = c ∙ filled-is o b r buf x y z ∙ ap (λ v. put v f (area r) buf) none in (
+          none,
+          λ k lt. clean-coded (nth b r k) (none-each (nth b r) (area r) none k lt) ∙ ap Some (sym (ap (λ l. getD l k 0) wrote ∙ put-at f (area r) k buf lt)),
+        )
 
     -- a prepare that was refused
     pub refuses : (n : ℕ) (vs : List ℕ) → refused n vs ≡ answer b r (length buf) → isSome (firstFault (nth b r) (area r)) ≡ true
@@ -74,9 +75,10 @@ module _ {K S : Type 0} (o : Ops K S) where
     -- a buffer that holds every pixel, and further on what it held
     pub serves : (codes : List ℕ) → length codes ≡ length buf → Shown o (nth b r) (area r) codes → drop (area r) codes ≡ drop (area r) buf
         → (done ≡ answer b r (length buf)) × (codes ≡ filled o b r buf)
-    serves codes len shown rest =
-        ( sym (answer-is b r (length buf) x y z ∙ ap holed (shown-clean o (nth b r) (area r) codes shown))
-        , whole o (nth b r) (area r) buf codes (omega arith) shown rest ∙ sym (filled-is o b r buf x y z) )
+    serves codes len shown rest = (
+      sym (answer-is b r (length buf) x y z ∙ ap holed (shown-clean o (nth b r) (area r) codes shown)),
+      whole o (nth b r) (area r) buf codes (omega arith) shown rest ∙ sym (filled-is o b r buf x y z),
+    )
 
     -- what a prepare leaves depends only on what it does not write
     pub filled-over : (other : List ℕ) → length other ≡ length buf → drop (area r) other ≡ drop (area r) buf → filled o b r other ≡ filled o b r buf

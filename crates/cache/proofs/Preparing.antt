@@ -1,7 +1,8 @@
 -- A prepare by tiles: what it answers, and what the machine has done.
-use mathlib.Core.Path.{_≡_, sym, _∙_, ap}
+use mathlib.Core.Path.{_≡_, sym, _∙_, ap, subst}
 use mathlib.Core.Bool.{true, false, _&&_}
-use mathlib.Core.List.{List}
+use mathlib.Core.List.{List, []}
+use mathlib.Core.Logic.{_⊎_, ⊎-elim}
 use Prim.Native.Nat.{ℕ, _+_, _-_, _*_, _/_, _%_, _<_, _≤_}
 use native.Mathlib.Omega.{arith}
 use native.Mathlib.Nat.{mul-comm}
@@ -9,24 +10,29 @@ use lib.Dec.{leb}
 use lib.ListN.{getD, length, drop}
 use Rattle.std.proofs.shelf.Bits.{mul-add-lt, mod-below, div-below, div-add-mod'}
 use Rattle.std.proofs.shelf.Lists.{ext-getD, getD-drop, length-drop}
-use Rattle.std.proofs.shelf.Tests.{and-from, le-leb, cond-true}
+use Rattle.std.proofs.shelf.Tests.{and-from, and-left, and-right, le-leb, lt-leb, cond-true, cond-false}
 use Rattle.std.specs.declared.option.Option.the-variants.{Some}
 use Rattle.pixel.specs.Ops.{Ops}
 use Rattle.picture.specs.declared.rect.Rect.{Rect}
-use Rattle.picture.specs.Refusals.{done}
-use Rattle.picture.specs.Images.{Image}
+use Rattle.picture.specs.Refusals.{done, refused}
+use Rattle.picture.specs.Images.{Image, Model}
 use Rattle.picture.specs.Prepare.{up, area, inside, nth, answer, Shown, filled}
 use Rattle.picture.specs.Region.{Within}
+use Rattle.cache.specs.declared.cache.Cache.{Cache}
 use Rattle.cache.specs.declared.shape.TileShape.{TileShape}
 use Rattle.cache.specs.declared.tiles.Tiles.{Tiles}
-use Rattle.cache.specs.Machine.{State, Walk, ended, settled}
+use Rattle.cache.specs.Machine.{State, Walk, ended, settled, Accounts, Once}
+use Rattle.cache.specs.Order.{none}
 use Rattle.cache.specs.Grid.{across, down}
 use Rattle.cache.specs.Boxes.{spot, Beyond}
 use Rattle.cache.specs.Slots.{state, Ready}
 use Rattle.cache.specs.Walks.{overTiles, Served}
-use Rattle.cache.specs.Caching.{prepared}
+use Rattle.cache.specs.Caching.{prepared, stateOf, Sound, Worked}
+use Rattle.cache.proofs.Listing.{length-listed}
+use Rattle.cache.proofs.Keeping.{long}
 use Rattle.cache.proofs.Pixels.{serves, filled-over}
 use Rattle.cache.proofs.Walking.{span-of}
+use Rattle.cache.proofs.Accounting.{once-prepared, few-prepared, accounts-prepared, quiet-prepared}
 
 beyond-drop : (rect : Rect) (was to : List ℕ) → length to ≡ length was → Beyond rect was to → drop (area rect) to ≡ drop (area rect) was
 beyond-drop rect was to len h =
@@ -65,6 +71,26 @@ module _ {K S : Type 0} (o : Ops K S) (b : Image K) (s : TileShape) (rect : Rect
     pub by-below : (to : List ℕ) → length to ≡ length buf → Beyond rect buf to → filled o b rect to ≡ filled o b rect buf
     by-below to len beyond = filled-over o b rect buf x y z to len (beyond-drop rect buf to len beyond)
 
+  module _ (buf : List ℕ) where
+    -- refusals 10 and 11 change nothing
+    halted : (inside b rect && leb (area rect) (length buf)) ≡ false → (buf ≡ filled o b rect buf) × ((st : State) → st ≡ prepared b s rect (length buf) st)
+    halted h = (sym (cond-false (inside b rect && leb (area rect) (length buf)) _ _ h), λ st. sym (cond-false (inside b rect && leb (area rect) (length buf)) _ _ h))
+
+    pub not-inside : (b .width < rect .left + rect .width) ⊎ (b .height < rect .top + rect .height)
+        → (refused 10 [] ≡ answer b rect (length buf)) × (buf ≡ filled o b rect buf) × ((st : State) → st ≡ prepared b s rect (length buf) st)
+    not-inside h =
+        let out : inside b rect ≡ false = ⊎-elim (λ l. and-left _ _ (lt-leb _ _ l)) (λ l. and-right _ _ (lt-leb _ _ l)) h in
+        let e = halted (and-left (inside b rect) (leb (area rect) (length buf)) out) in
+        (sym (cond-false (inside b rect) _ _ out), e .0, e .1)
+
+    pub too-short : rect .left + rect .width ≤ b .width → rect .top + rect .height ≤ b .height → length buf < area rect
+        → (refused 11 [] ≡ answer b rect (length buf)) × (buf ≡ filled o b rect buf) × ((st : State) → st ≡ prepared b s rect (length buf) st)
+    too-short x y l =
+        let in-it : inside b rect ≡ true = and-from _ _ (le-leb _ _ x) (le-leb _ _ y) in
+        let short : leb (area rect) (length buf) ≡ false = lt-leb _ _ l in
+        let e = halted (and-right (inside b rect) (leb (area rect) (length buf)) short) in
+        (sym (cond-true (inside b rect) _ _ in-it ∙ cond-false (leb (area rect) (length buf)) _ _ short), e .0, e .1)
+
 -- the slots with another count of bypasses
 abbrev pub counting : Tiles → ℕ → Tiles
 counting t n = record { held = t .held; len = t .len; entries = t .entries; hits = t .hits; fetches = t .fetches; bypasses = n }
@@ -74,3 +100,21 @@ bypass-ready o b s t n h = record { few = h .few; long = h .long; room = h .room
 
 pub bypass-state : (t : Tiles) (n n′ y : ℕ) → y ≡ up (t .bypasses) → n′ ≡ up n → state (counting t y) n′ ≡ settled (ended (state t n))
 bypass-state t n n′ y e f = ap (λ v. state (counting t v) n′) e ∙ ap (λ v. state (counting t (up (t .bypasses))) v) f
+
+module _ {P K S : Type 0} (o : Ops K S) (model : P → Model K) (count : P → ℕ) (sound : P → Type 0) where
+  -- the laws of the machine, for a cache that does what the machine does
+  pub worked : (c d : Cache P) (r : Rect) (n : ℕ) → Sound o model sound c → d .shape ≡ c .shape → stateOf count d ≡ prepared (model (c .below) .shown) (c .shape) r n (stateOf count c)
+      → Worked model count c r n d
+  worked c d r n h shape e =
+      let b = model (c .below) .shown in
+      let st = stateOf count c in
+      let t = c .tiles in
+      let few : length (st .tiles) ≤ c .shape .slots = omega (arith, length-listed (t .held) (t .len) (none .tile) (omega (arith, long o b (c .shape) t (h .ready))), h .ready .few) in
+      record {
+        shape = shape;
+        machine = e;
+        once = subst (λ (v : State). Once (v .tiles)) (sym e) (once-prepared b (c .shape) r n st (h .once));
+        few = subst (λ (v : State). length (v .tiles) ≤ c .shape .slots) (sym e) (few-prepared b (c .shape) r n st few);
+        accounts = subst (Accounts st) (sym e) (accounts-prepared b (c .shape) r n st);
+        held = λ all. ap (λ (v : State). v .asked) e ∙ quiet-prepared b (c .shape) r n st all;
+      }

@@ -49,9 +49,10 @@ span-of from size side x pos le lt =
 div-in : (x side c : ℕ) → 1 ≤ side → x / side ≡ c → (c * side ≤ x) × (x < c * side + side)
 div-in x side c pos e =
     let m = ap (λ q. q * side) e in
-    let n = lt-mul-div-succ x {b = side} pos in
-    ( omega (arith, div-mul-le-self x side)
-    , omega (arith, n, mul-add side (x / side) 1, mul-one side, mul-comm side (x / side)) )
+    let n = lt-mul-div-succ x {b = side} pos in (
+      omega (arith, div-mul-le-self x side),
+      omega (arith, n, mul-add side (x / side) 1, mul-one side, mul-comm side (x / side)),
+    )
 
 in-div : (x side c : ℕ) → c * side ≤ x → x < c * side + side → x / side ≡ c
 in-div x side c le lt =

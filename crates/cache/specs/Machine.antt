@@ -88,4 +88,4 @@ Once (t ∷ ts) = (lists ts t ≡ false) × Once ts
 -- from s to t, while no count has stopped: below's count rose by the fetches and twice the bypasses
 abbrev pub Accounts : State → State → Type 0
 Accounts s t = t .asked < 2 ^ 64 - 1 → t .fetches < 2 ^ 64 - 1 → t .bypasses < 2 ^ 64 - 1
-  → t .asked + s .fetches + 2 * s .bypasses ≡ s .asked + t .fetches + 2 * t .bypasses
+    → t .asked + s .fetches + 2 * s .bypasses ≡ s .asked + t .fetches + 2 * t .bypasses

@@ -65,7 +65,7 @@ module _ {K S : Type 0} (o : Ops K S) where
   -- a slot holds the pixels of its tile
   abbrev pub Good : Image K → TileShape → List ℕ → Held → Type 0
   Good b s entries h = (x y : ℕ) → x < tileWidth b s (h .tile) → y < tileHeight b s (h .tile)
-    → coded o (tilePlace b s (h .tile) x y) ≡ Some (getD entries (base (h .slot) + (y * tileWidth b s (h .tile) + x)) 0)
+      → coded o (tilePlace b s (h .tile) x y) ≡ Some (getD entries (base (h .slot) + (y * tileWidth b s (h .tile) + x)) 0)
 
   -- the slots lie apart, and each listed one holds the pixels of its tile
   pub record Ready (b : Image K) (s : TileShape) (t : Tiles) : Type 0 where

@@ -32,7 +32,7 @@ module _ {K S : Type 0} (o : Ops K S) where
   -- the buffer holds the pixels of those places of a rectangle whose tile is one of the first n that it touches
   abbrev pub Served : Image K → TileShape → Rect → List ℕ → ℕ → Type 0
   Served b s r to n = (x y : ℕ) → Within r x y → (y / s .height - r .top / s .height) * across s r + (x / s .width - r .left / s .width) < n
-    → coded o (b .at x y) ≡ Some (getD to (spot r x y) 0)
+      → coded o (b .at x y) ≡ Some (getD to (spot r x y) 0)
 
 module _ {P K S : Type 0} (o : Ops K S) (model : P → Model K) (count : P → ℕ) (sound : P → Type 0) (s : TileShape) where
   -- what a visit needs: `size` is that of the picture below

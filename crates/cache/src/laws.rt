@@ -5,13 +5,11 @@ ghost use Rattle.cache.specs.Samples.{FiveSingly, PassedBy, SeventeenSlots};
 pub fn used_tiles_stay()
     ensures first { λ _. ⌜ UsedFirst ⌝ }
     ensures stays { λ _. ⌜ UsedStays ⌝ }
-{
-}
+{}
 
 /// The definitions at two sample pictures, and at too many slots.
 pub fn samples_stand()
     ensures singly { λ _. ⌜ FiveSingly ⌝ }
     ensures bypass { λ _. ⌜ PassedBy ⌝ }
     ensures slots { λ _. ⌜ SeventeenSlots ⌝ }
-{
-}
+{}

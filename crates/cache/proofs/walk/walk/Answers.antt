@@ -91,13 +91,14 @@ loop-k-again g c =
     c .if-not-visit .ensures tt .went .machine ∙ ap (λ (x : Model (g .P·Pixel .Denot)). visited (s .slots) (whole (x .shown) s) st t) (v .keeps)
     ∙ ap (λ x. visited (s .slots) (whole b s) st x) (q .is) in
     let ready : Ready o b s (c .visit .last .tiles) = subst (λ (x : Model (g .P·Pixel .Denot)). Ready o (x .shown) s (c .visit .last .tiles)) (w .keeps ∙ v .keeps) (w .ready) in
-    let covers = covers-in s _ _ _ _ t (c .cell-place .result) (c .pre .stands .wide) (c .pre .stands .high) (c .cell-place .ensures) in
-    ( record {
+    let covers = covers-in s _ _ _ _ t (c .cell-place .result) (c .pre .stands .wide) (c .pre .stands .high) (c .cell-place .ensures) in (
+      record {
         machine = sym (walk-more (s .slots) (whole b s) (touched s rect) s0 k st (going st′) (sym (v .machine)) m);
         keeps = w .keeps ∙ v .keeps;
         below = w .below;
         ready = w .ready;
-      }
-    , served-more o b s rect (omega (arith, c .pre .across, c .pre .stands .wide)) (omega (arith, c .pre .down, c .pre .stands .high)) (c .visit .last .tiles) k t (c .cell-place .result) (c .loop-k .buffer) (c .overlay .last .to) ready (q .is)
-      (c .visit .ensures .front (c .if-not-visit .left)) covers (c .overlay .ensures) (c .loop-k .inv .1)
-    , λ j h. c .overlay .ensures .rest j h ∙ c .loop-k .inv .2 j h )
+      },
+      served-more o b s rect (omega (arith, c .pre .across, c .pre .stands .wide)) (omega (arith, c .pre .down, c .pre .stands .high)) (c .visit .last .tiles) k t (c .cell-place .result) (c .loop-k .buffer) (c .overlay .last .to) ready (q .is)
+          (c .visit .ensures .front (c .if-not-visit .left)) covers (c .overlay .ensures) (c .loop-k .inv .1),
+      λ j h. c .overlay .ensures .rest j h ∙ c .loop-k .inv .2 j h,
+    )
