@@ -7,13 +7,14 @@ use lib.Dec.{leb, eqb, lit≤}
 use Rattle.std.specs.declared.result.Result.{Result}
 use Rattle.std.specs.declared.result.Result.the-variants.{Ok, Err}
 use Rattle.pixel.specs.declared.pixels.Grey.{Grey}
-use Rattle.pixel.specs.Kinds.{shade}
+use Rattle.pixel.specs.Kinds.{grey, shade}
 use Rattle.picture.specs.declared.fault.Cause.the-variants.{Missing}
 use Rattle.picture.specs.declared.fault.Refusal.{Refusal}
 use Rattle.picture.specs.declared.rect.Rect.{Rect}
 use Rattle.picture.specs.Images.{Image}
 use Rattle.picture.specs.Places.{Place, pixel, hole}
-use Rattle.picture.specs.Refusals.{told, refused}
+use Rattle.picture.specs.Prepare.{answer, filled}
+use Rattle.picture.specs.Refusals.{done, told, refused}
 use Rattle.cache.specs.declared.shape.TileShape.{TileShape}
 use Rattle.cache.specs.Machine.{State, fresh}
 use Rattle.cache.specs.Caching.{prepared}
@@ -55,14 +56,15 @@ abbrev pub five : State
 five = singly (place 1 (lit≤ tt) ∷ (place 2 (lit≤ tt) ∷ (place 0 (lit≤ tt) ∷ (place 1 (lit≤ tt) ∷ (place 0 (lit≤ tt) ∷ [])))))
 
 abbrev pub FiveSingly : Type 0
-FiveSingly = (five .hits ≡ 1) × (five .fetches ≡ 4) × (five .bypasses ≡ 0)
+FiveSingly = (five .hits ≡ 1) × (five .fetches ≡ 4) × (five .bypasses ≡ 0) × (five .asked ≡ 4)
 
--- a tile with a hole is passed by
+-- place (0, 0) of the other one, whose tile has a hole
 abbrev pub passed : State
 passed = prepared cutSample square (place 0 (lit≤ tt)) 1 (fresh 0)
 
+-- the rectangle itself is prepared below, and answered
 abbrev pub PassedBy : Type 0
-PassedBy = (passed .bypasses ≡ 1) × (passed .asked ≡ 2) × (passed .fetches ≡ 0) × (passed .tiles ≡ [])
+PassedBy = (passed .bypasses ≡ 1) × (passed .asked ≡ 2) × (passed .tiles ≡ []) × (answer cutSample (place 0 (lit≤ tt)) 1 ≡ done) × (filled grey cutSample (place 0 (lit≤ tt)) (0 ∷ []) ≡ 10 ∷ [])
 
 abbrev pub refusedBy5 : Result TileShape Refusal → Type 0
 refusedBy5 (Ok s) = ⊥

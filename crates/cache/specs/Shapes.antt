@@ -9,10 +9,11 @@ use Rattle.std.specs.declared.result.Result.the-variants.{Ok, Err}
 use Rattle.picture.specs.declared.fault.Refusal.{Refusal}
 use Rattle.picture.specs.Refusals.{refused, told}
 use Rattle.cache.specs.declared.shape.TileShape.{TileShape}
+use Rattle.cache.specs.Limits.{mostPlaces, mostTiles}
 
--- both sides are at least 1, a tile has at most 256 places, and there are 1 to 16 slots
+-- both sides are at least 1, a tile has at most 256 places, and 1 to 16 tiles are held
 abbrev pub shapely : ℕ → ℕ → ℕ → Bool
-shapely w h n = (leb 1 w && (leb 1 h && leb (w * h) 256)) && (leb 1 n && leb n 16)
+shapely w h n = (leb 1 w && (leb 1 h && leb (w * h) mostPlaces)) && (leb 1 n && leb n mostTiles)
 
 -- the shape of these numbers, or 5 where they are outside the limits
 abbrev pub ShapeMade : ℕ → ℕ → ℕ → Result TileShape Refusal → Type 0

@@ -11,13 +11,14 @@ use Rattle.cache.specs.declared.held.Held.{Held}
 use Rattle.cache.specs.declared.shape.TileShape.{TileShape}
 use Rattle.cache.specs.declared.tile.Tile.{Tile}
 use Rattle.cache.specs.declared.tiles.Tiles.{Tiles}
+use Rattle.cache.specs.Limits.{mostPlaces, slotCount, entryCount}
 use Rattle.cache.specs.Machine.{State}
 use Rattle.cache.specs.Order.{none, tileAt, slotAt, promoted, listed}
 use Rattle.cache.specs.Grid.{tileWidth, tileHeight, tilePlace}
 
--- where a slot's entries begin; each has room for 256
+-- where a slot's entries begin
 abbrev pub base : ℕ → ℕ
-base slot = slot * 256
+base slot = slot * mostPlaces
 
 -- the machine's state, over a picture with this count
 abbrev pub state : Tiles → ℕ → State
@@ -57,9 +58,9 @@ pub record Unused (t : Tiles) : Type 0 where
   pub hits : t .hits ≡ 0
   pub fetches : t .fetches ≡ 0
   pub bypasses : t .bypasses ≡ 0
-  pub long : length (t .held) ≡ 17
-  pub room : length (t .entries) ≡ 4352
-  pub own : (i : ℕ) → i < 17 → slotAt (t .held) i ≡ i
+  pub long : length (t .held) ≡ slotCount
+  pub room : length (t .entries) ≡ entryCount
+  pub own : (i : ℕ) → i < slotCount → slotAt (t .held) i ≡ i
 
 module _ {K S : Type 0} (o : Ops K S) where
   -- a slot holds the pixels of its tile
@@ -70,8 +71,8 @@ module _ {K S : Type 0} (o : Ops K S) where
   -- the slots lie apart, and each listed one holds the pixels of its tile
   pub record Ready (b : Image K) (s : TileShape) (t : Tiles) : Type 0 where
     pub few : t .len ≤ s .slots
-    pub long : length (t .held) ≡ 17
-    pub room : length (t .entries) ≡ 4352
-    pub own : (i : ℕ) → i < 17 → slotAt (t .held) i < 17
-    pub apart : (i j : ℕ) → i < 17 → j < 17 → slotAt (t .held) i ≡ slotAt (t .held) j → i ≡ j
+    pub long : length (t .held) ≡ slotCount
+    pub room : length (t .entries) ≡ entryCount
+    pub own : (i : ℕ) → i < slotCount → slotAt (t .held) i < slotCount
+    pub apart : (i j : ℕ) → i < slotCount → j < slotCount → slotAt (t .held) i ≡ slotAt (t .held) j → i ≡ j
     pub good : (i : ℕ) → i < t .len → Good b s (t .entries) (getD (t .held) i none)

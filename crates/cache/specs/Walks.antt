@@ -20,9 +20,9 @@ use Rattle.cache.specs.Boxes.{spot, Beyond}
 use Rattle.cache.specs.Slots.{state, Front, Ready}
 
 -- a walk that goes on, or ended
-abbrev pub walk : Bool → State → Walk
-walk true s = going s
-walk false s = ended s
+abbrev pub walkOf : Bool → State → Walk
+walkOf true s = going s
+walkOf false s = ended s
 
 -- the machine's walk over the tiles that a rectangle touches
 abbrev pub overTiles : {K : Type 0} → Image K → TileShape → Rect → State → Walk
@@ -34,7 +34,7 @@ module _ {K S : Type 0} (o : Ops K S) where
   Served b s r to n = (x y : ℕ) → Within r x y → (y / s .height - r .top / s .height) * across s r + (x / s .width - r .left / s .width) < n
       → coded o (b .at x y) ≡ Some (getD to (spot r x y) 0)
 
-module _ {P K S : Type 0} (o : Ops K S) (model : P → Model K) (count : P → ℕ) (sound : P → Type 0) (s : TileShape) where
+module _ {P K S : Type 0} (o : Ops K S) (model : P → Model K) (sound : P → Type 0) (s : TileShape) where
   -- what a visit needs: `size` is that of the picture below
   pub record Stands (size : Size) (p : P) (t : Tiles) : Type 0 where
     pub below : sound p
@@ -42,9 +42,10 @@ module _ {P K S : Type 0} (o : Ops K S) (model : P → Model K) (count : P → �
     pub wide : size .width ≡ model p .shown .width
     pub high : size .height ≡ model p .shown .height
 
+module _ {P K S : Type 0} (o : Ops K S) (model : P → Model K) (count : P → ℕ) (sound : P → Type 0) (s : TileShape) where
   -- the picture below p and the slots t have become q and u; w is what the machine makes of their state
   pub record Went (w : State → Walk) (p : P) (t : Tiles) (on : Bool) (q : P) (u : Tiles) : Type 0 where
-    pub machine : walk on (state u (count q)) ≡ w (state t (count p))
+    pub machine : walkOf on (state u (count q)) ≡ w (state t (count p))
     pub keeps : model q ≡ model p
     pub below : sound q
     pub ready : Ready o (model q .shown) s u

@@ -3,12 +3,15 @@ ghost use Prim.Native.Nat.{ℕ, _<_};
 ghost use lib.ListN.{length};
 ghost use denote.Ref.{now};
 ghost use Rattle.picture.specs.Prepare.{Prepared, Forgot};
+ghost use Rattle.cache.specs.Limits.{slotCount};
 ghost use Rattle.cache.specs.Machine.{countsOf};
 ghost use Rattle.cache.specs.Order.{slotAt};
 ghost use Rattle.cache.specs.Slots.{Unused};
 ghost use Rattle.cache.specs.Caching.{Made, Sound, Worked, Emptied, Bare, modelOf, stateOf};
 use crate::counts::Counts;
 use crate::held::Held;
+use crate::limits::ENTRIES;
+use crate::limits::SLOTS;
 use crate::shape::TileShape;
 use crate::tile::Tile;
 use crate::tiles::Tiles;
@@ -23,20 +26,20 @@ use pixel::Kind;
 /// A picture that keeps tiles of the picture below.
 #[derive(Drop)]
 pub struct Cache<P> {
-    pub(crate) below: P,
-    pub(crate) shape: TileShape,
-    pub(crate) tiles: Tiles,
-    pub(crate) count: u64,
+    below: P,
+    shape: TileShape,
+    tiles: Tiles,
+    count: u64,
 }
 
 /// Each slot in its own place.
-fn slots() -> [Held; 17]
-    ensures long { λ r. ⌜ length r ≡ 17 ⌝ }
-    ensures own { λ r. ⌜ ((i : ℕ) → i < 17 → slotAt r i ≡ i) ⌝ }
+fn slots() -> [Held; SLOTS]
+    ensures long { λ r. ⌜ length r ≡ slotCount ⌝ }
+    ensures own { λ r. ⌜ ((i : ℕ) → i < slotCount → slotAt r i ≡ i) ⌝ }
 {
     let tile = Tile { column: 0, row: 0 };
-    let mut held = [Held { tile, slot: 0 }; 17];
-    for i in 0..17 {
+    let mut held = [Held { tile, slot: 0 }; SLOTS];
+    for i in 0..SLOTS {
         held[i] = Held {
             tile,
             slot: i as u32,
@@ -51,7 +54,7 @@ fn unused() -> Tiles
     Tiles {
         held: slots(),
         len: 0,
-        entries: [0; 4352],
+        entries: [0; ENTRIES],
         hits: 0,
         fetches: 0,
         bypasses: 0,
@@ -101,8 +104,8 @@ pub impl<P: Picture> Picture for Cache<P> as CachePicture {
 
     fn prepare(&mut self, rect: Rect, buffer: &mut [u64]) -> Result<(), Refusal>
         requires { ⌜ Sound (Pixel·Kind .ops) (P·Picture .model) (P·Picture .sound) (now self) ⌝ }
-        ensures { λ r. ⌜ Prepared (Pixel·Kind .ops) (modelOf (P·Picture .model)) (λ c. c .count) (Sound (Pixel·Kind .ops) (P·Picture .model) (P·Picture .sound)) (now (self .entry)) rect (now (buffer .entry)) r (now (self .exit)) (now (buffer .exit)) ⌝ }
-        ensures { λ _. ⌜ Worked (P·Picture .model) (P·Picture .count) (now (self .entry)) rect (length (now (buffer .entry))) (now (self .exit)) ⌝ }
+        ensures prepared { λ r. ⌜ Prepared (Pixel·Kind .ops) (modelOf (P·Picture .model)) (λ c. c .count) (Sound (Pixel·Kind .ops) (P·Picture .model) (P·Picture .sound)) (now (self .entry)) rect (now (buffer .entry)) r (now (self .exit)) (now (buffer .exit)) ⌝ }
+        ensures worked { λ _. ⌜ Worked (P·Picture .model) (P·Picture .count) (now (self .entry)) rect (length (now (buffer .entry))) (now (self .exit)) ⌝ }
     {
         self.count = more(self.count);
         let size = self.below.size();
@@ -126,8 +129,8 @@ pub impl<P: Picture> Picture for Cache<P> as CachePicture {
 
     fn forget(&mut self)
         requires { ⌜ Sound (Pixel·Kind .ops) (P·Picture .model) (P·Picture .sound) (now self) ⌝ }
-        ensures { λ _. ⌜ Forgot (modelOf (P·Picture .model)) (λ c. c .count) (Sound (Pixel·Kind .ops) (P·Picture .model) (P·Picture .sound)) (Bare (P·Picture .bare)) (now (self .entry)) (now (self .exit)) ⌝ }
-        ensures { λ _. ⌜ Emptied (P·Picture .count) (now (self .entry)) (now (self .exit)) ⌝ }
+        ensures forgot { λ _. ⌜ Forgot (modelOf (P·Picture .model)) (λ c. c .count) (Sound (Pixel·Kind .ops) (P·Picture .model) (P·Picture .sound)) (Bare (P·Picture .bare)) (now (self .entry)) (now (self .exit)) ⌝ }
+        ensures emptied { λ _. ⌜ Emptied (P·Picture .count) (now (self .entry)) (now (self .exit)) ⌝ }
     {
         self.tiles.len = 0;
         self.below.forget();

@@ -1,4 +1,5 @@
 ghost use Prim.Native.Nat.{_*_, _≤_};
+ghost use Rattle.cache.specs.Limits.{mostPlaces, mostTiles};
 
 /// The sides of a cache's tiles, and how many it holds.
 #[derive(Clone, Copy, PartialEq, Eq, Debug)]
@@ -8,7 +9,7 @@ pub struct TileShape {
     pub slots: usize,
     ghost wide: { 1 ≤ width },
     ghost high: { 1 ≤ height },
-    ghost small: { width * height ≤ 256 },
+    ghost small: { width * height ≤ mostPlaces },
     ghost some: { 1 ≤ slots },
-    ghost few: { slots ≤ 16 },
+    ghost few: { slots ≤ mostTiles },
 }

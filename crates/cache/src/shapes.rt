@@ -1,4 +1,6 @@
 ghost use Rattle.cache.specs.Shapes.{ShapeMade};
+use crate::limits::PLACES;
+use crate::limits::TILES;
 use crate::shape::TileShape;
 use picture::Refusal;
 
@@ -9,9 +11,9 @@ impl TileShape {
     {
         if width < 1
             || height < 1
-            || width as u64 * height as u64 > 256
+            || width as u64 * height as u64 > PLACES as u64
             || slots < 1
-            || slots > 16
+            || slots > TILES
         {
             return Err(Refusal::OutsideLimits);
         }

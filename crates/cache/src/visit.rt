@@ -2,11 +2,13 @@ ghost use mathlib.Core.Path.{_≡_};
 ghost use mathlib.Core.Bool.{true, cond};
 ghost use Prim.Native.Nat.{ℕ, _+_, _*_, _<_, _≤_};
 ghost use Rattle.picture.specs.Prepare.{up};
+ghost use Rattle.cache.specs.Limits.{mostTiles, slotCount};
 ghost use Rattle.cache.specs.Machine.{going, ended, fetched, denied, visited};
 ghost use Rattle.cache.specs.Grid.{Covers, whole};
 ghost use Rattle.cache.specs.Slots.{Front, again, admitted};
 ghost use Rattle.cache.specs.Walks.{Stands, Went};
 use crate::held::Held;
+use crate::limits::PLACES;
 use crate::order::find;
 use crate::order::promote;
 use crate::shape::TileShape;
@@ -42,7 +44,7 @@ pub fn cell(shape: TileShape, size: Size, tile: Tile) -> Rect
 
 /// Moves the listed tile at `i` to the front.
 fn hit(tiles: &mut Tiles, i: usize)
-    requires { ⌜ i < 17 ⌝ }
+    requires { ⌜ i < slotCount ⌝ }
     ensures { λ _. ⌜ now (tiles .exit) ≡ again (now (tiles .entry)) i ⌝ }
 {
     promote(&mut tiles.held, i);
@@ -51,7 +53,7 @@ fn hit(tiles: &mut Tiles, i: usize)
 
 /// Lists the tile in the spare slot; the slot of one that leaves is then the spare one.
 fn admit(tiles: &mut Tiles, slots: usize, tile: Tile)
-    requires { ⌜ now tiles .len ≤ slots ⌝ ∗ ⌜ slots ≤ 16 ⌝ }
+    requires { ⌜ now tiles .len ≤ slots ⌝ ∗ ⌜ slots ≤ mostTiles ⌝ }
     ensures { λ _. ⌜ now (tiles .exit) ≡ admitted slots tile (now (tiles .entry)) ⌝ }
 {
     let len = tiles.len;
@@ -70,13 +72,13 @@ fn fetch<P: Picture>(
     tiles: &mut Tiles,
     tile: Tile,
 ) -> bool
-    requires stands { ⌜ Stands (Pixel·Kind .ops) (P·Picture .model) (P·Picture .count) (P·Picture .sound) shape size (now below) (now tiles) ⌝ }
+    requires stands { ⌜ Stands (Pixel·Kind .ops) (P·Picture .model) (P·Picture .sound) shape size (now below) (now tiles) ⌝ }
     requires across { ⌜ tile .column * shape .width < size .width ⌝ }
     requires down { ⌜ tile .row * shape .height < size .height ⌝ }
     ensures went { λ r. ⌜ Went (Pixel·Kind .ops) (P·Picture .model) (P·Picture .count) (P·Picture .sound) shape (λ s. cond (whole (P·Picture .model (now (below .entry)) .shown) shape tile) (going (fetched (shape .slots) s tile)) (ended (denied s))) (now (below .entry)) (now (tiles .entry)) r (now (below .exit)) (now (tiles .exit)) ⌝ }
     ensures front { λ r. ⌜ (r ≡ true → Front (now (tiles .exit)) tile) ⌝ }
 {
-    let start = tiles.held[tiles.len].slot as usize * 256;
+    let start = tiles.held[tiles.len].slot as usize * PLACES;
     let rect = cell(shape, size, tile);
     let n = rect.area();
     match below.prepare(rect, &mut tiles.entries[start..start + n]) {
@@ -96,7 +98,7 @@ pub fn visit<P: Picture>(
     tiles: &mut Tiles,
     tile: Tile,
 ) -> bool
-    requires stands { ⌜ Stands (Pixel·Kind .ops) (P·Picture .model) (P·Picture .count) (P·Picture .sound) shape size (now below) (now tiles) ⌝ }
+    requires stands { ⌜ Stands (Pixel·Kind .ops) (P·Picture .model) (P·Picture .sound) shape size (now below) (now tiles) ⌝ }
     requires across { ⌜ tile .column * shape .width < size .width ⌝ }
     requires down { ⌜ tile .row * shape .height < size .height ⌝ }
     ensures went { λ r. ⌜ Went (Pixel·Kind .ops) (P·Picture .model) (P·Picture .count) (P·Picture .sound) shape (λ s. visited (shape .slots) (whole (P·Picture .model (now (below .entry)) .shown) shape) s tile) (now (below .entry)) (now (tiles .entry)) r (now (below .exit)) (now (tiles .exit)) ⌝ }

@@ -2,11 +2,13 @@ ghost use mathlib.Core.Path.{_≡_};
 ghost use mathlib.Core.Bool.{true};
 ghost use Prim.Native.Nat.{ℕ, _+_, _*_, _<_, _≤_};
 ghost use lib.ListN.{length};
+ghost use Rattle.picture.specs.Limits.{largest};
 ghost use Rattle.picture.specs.Prepare.{area};
 ghost use Rattle.cache.specs.Grid.{span, across as wideness, down as highness};
 ghost use Rattle.cache.specs.Boxes.{Beyond};
 ghost use Rattle.cache.specs.Walks.{Stands, Went, Served, overTiles};
 use crate::blit::overlay;
+use crate::limits::PLACES;
 use crate::shape::TileShape;
 use crate::tile::Tile;
 use crate::tiles::Tiles;
@@ -19,10 +21,10 @@ use pixel::Kind;
 
 /// How many tiles of this side are touched by `count` columns or rows from `from` on.
 fn reach(from: u32, count: u32, side: u32) -> u32
-    requires { ⌜ 1 ≤ count ⌝ ∗ ⌜ from + count ≤ 65535 ⌝ ∗ ⌜ 1 ≤ side ⌝ }
+    requires { ⌜ 1 ≤ count ⌝ ∗ ⌜ from + count ≤ largest ⌝ ∗ ⌜ 1 ≤ side ⌝ }
     ensures is { λ r. ⌜ r ≡ span from count side ⌝ }
     ensures some { λ r. ⌜ 1 ≤ r ⌝ }
-    ensures few { λ r. ⌜ r ≤ 65535 ⌝ }
+    ensures few { λ r. ⌜ r ≤ largest ⌝ }
 {
     (from + count - 1) / side - from / side + 1
 }
@@ -36,7 +38,7 @@ pub fn walk<P: Picture>(
     rect: Rect,
     buffer: &mut [u64],
 ) -> bool
-    requires stands { ⌜ Stands (Pixel·Kind .ops) (P·Picture .model) (P·Picture .count) (P·Picture .sound) shape size (now below) (now tiles) ⌝ }
+    requires stands { ⌜ Stands (Pixel·Kind .ops) (P·Picture .model) (P·Picture .sound) shape size (now below) (now tiles) ⌝ }
     requires across { ⌜ rect .left + rect .width ≤ size .width ⌝ }
     requires down { ⌜ rect .top + rect .height ≤ size .height ⌝ }
     requires room { ⌜ area rect ≤ length (now buffer) ⌝ }
@@ -57,7 +59,7 @@ pub fn walk<P: Picture>(
             return false;
         }
         let place = cell(shape, size, tile);
-        let start = tiles.held[0].slot as usize * 256;
+        let start = tiles.held[0].slot as usize * PLACES;
         overlay(&tiles.entries, start, place, rect, buffer);
     }
     true

@@ -24,10 +24,11 @@ returns-then-rect-size g c =
       | then-rect-size·by·else-rect-size·then-rect-size-2 w ↦ inr (omega (arith, w .if-rect-size-2 .taken, c .size-size .ensures .height))
     ] in
     let f = not-inside o b (p .shape) r (c .args .buffer .now) out in
-    let q : Cache (g .P .Denot) = record { below = p .below; shape = p .shape; tiles = p .tiles; count = c .more-self .result } in (
-      record { answers = f .0; fills = f .1; counts = c .more-self .ensures; keeps = refl; stays = record { below = c .pre .below; ready = c .pre .ready; once = c .pre .once } },
-      worked o (g .P·Picture .model) (g .P·Picture .count) (g .P·Picture .sound) p q r (length (c .args .buffer .now)) (c .pre) refl (f .2 _),
-    )
+    let q : Cache (g .P .Denot) = record { below = p .below; shape = p .shape; tiles = p .tiles; count = c .more-self .result } in
+    record {
+      prepared = record { answers = f .0; fills = f .1; counts = c .more-self .ensures; keeps = refl; stays = record { below = c .pre .below; ready = c .pre .ready; once = c .pre .once } };
+      worked = worked o (g .P·Picture .model) (g .P·Picture .count) (g .P·Picture .sound) p q r (length (c .args .buffer .now)) (c .pre) refl (f .2 _);
+    }
 
 pub returns-then-area-buffer : need.returns-then-area-buffer
 returns-then-area-buffer g c =
@@ -36,10 +37,11 @@ returns-then-area-buffer g c =
     let b = g .P·Picture .model (p .below) .shown in
     let r = c .args .rect in
     let f = too-short o b (p .shape) r (c .args .buffer .now) (omega (arith, c .if-rect-size .left, c .size-size .ensures .width)) (omega (arith, c .if-rect-size-2 .left, c .size-size .ensures .height)) (omega (arith, c .if-area-buffer .taken, c .area .ensures)) in
-    let q : Cache (g .P .Denot) = record { below = p .below; shape = p .shape; tiles = p .tiles; count = c .more-self .result } in (
-      record { answers = f .0; fills = f .1; counts = c .more-self .ensures; keeps = refl; stays = record { below = c .pre .below; ready = c .pre .ready; once = c .pre .once } },
-      worked o (g .P·Picture .model) (g .P·Picture .count) (g .P·Picture .sound) p q r (length (c .args .buffer .now)) (c .pre) refl (f .2 _),
-    )
+    let q : Cache (g .P .Denot) = record { below = p .below; shape = p .shape; tiles = p .tiles; count = c .more-self .result } in
+    record {
+      prepared = record { answers = f .0; fills = f .1; counts = c .more-self .ensures; keeps = refl; stays = record { below = c .pre .below; ready = c .pre .ready; once = c .pre .once } };
+      worked = worked o (g .P·Picture .model) (g .P·Picture .count) (g .P·Picture .sound) p q r (length (c .args .buffer .now)) (c .pre) refl (f .2 _);
+    }
 
 pub returns-then-walk : need.returns-then-walk
 returns-then-walk g c =
@@ -56,10 +58,11 @@ returns-then-walk g c =
     let f = by-tiles o b s r buf x y z (c .walk .last .buffer) (c .walk .kept .buffer) (c .walk .ensures .rest) (c .walk .ensures .served (c .if-walk .taken)) in
     let e = machine o b s r buf x y z (going (state (c .walk .last .tiles) (g .P·Picture .count (c .walk .last .below)))) (state (p .tiles) (g .P·Picture .count (p .below))) (w .machine) in
     let q : Cache (g .P .Denot) = record { below = c .walk .last .below; shape = s; tiles = c .walk .last .tiles; count = c .more-self .result } in
-    let done = worked o (g .P·Picture .model) (g .P·Picture .count) (g .P·Picture .sound) p q r (length buf) (c .pre) refl e in (
-      record { answers = f .0; fills = f .1; counts = c .more-self .ensures; keeps = w .keeps; stays = record { below = w .below; ready = w .ready; once = done .once } },
-      done,
-    )
+    let done = worked o (g .P·Picture .model) (g .P·Picture .count) (g .P·Picture .sound) p q r (length buf) (c .pre) refl e in
+    record {
+      prepared = record { answers = f .0; fills = f .1; counts = c .more-self .ensures; keeps = w .keeps; stays = record { below = w .below; ready = w .ready; once = done .once } };
+      worked = done;
+    }
 
 pub returns : need.returns
 returns g c =
@@ -80,8 +83,9 @@ returns g c =
     let e = bypass-state t n (g .P·Picture .count (c .prepare .last .self)) (c .more-self-2 .result) (c .more-self-2 .ensures) (v .counts)
     ∙ machine o b s r buf x y z (ended (state t n)) (state (p .tiles) (g .P·Picture .count (p .below))) (w .machine) in
     let q : Cache (g .P .Denot) = record { below = c .prepare .last .self; shape = s; tiles = counting t (c .more-self-2 .result); count = c .more-self .result } in
-    let done = worked o (g .P·Picture .model) (g .P·Picture .count) (g .P·Picture .sound) p q r (length buf) (c .pre) refl e in (
-      record {
+    let done = worked o (g .P·Picture .model) (g .P·Picture .count) (g .P·Picture .sound) p q r (length buf) (c .pre) refl e in
+    record {
+      prepared = record {
         answers = v .answers ∙ ap (λ (m : Model (g .P·Pixel .Denot)). answer (m .shown) r (length (c .walk .last .buffer))) (w .keeps) ∙ ap (answer b r) len;
         fills = v .fills ∙ ap (λ (m : Model (g .P·Pixel .Denot)). filled o (m .shown) r (c .walk .last .buffer)) (w .keeps) ∙ by-below o b s r buf x y z (c .walk .last .buffer) len (c .walk .ensures .rest);
         counts = c .more-self .ensures;
@@ -91,6 +95,6 @@ returns g c =
           ready = bypass-ready o _ s t _ (subst (λ (m : Model (g .P·Pixel .Denot)). Ready o (m .shown) s t) (sym (v .keeps)) (w .ready));
           once = done .once;
         };
-      },
-      done,
-    )
+      };
+      worked = done;
+    }
