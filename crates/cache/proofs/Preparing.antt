@@ -1,5 +1,5 @@
 -- A prepare by tiles: what it answers, and what the machine has done.
-use mathlib.Core.Path.{_≡_, sym, _∙_, ap, subst}
+use mathlib.Core.Path.{_≡_, refl, sym, _∙_, ap, subst}
 use mathlib.Core.Bool.{true, false, _&&_}
 use mathlib.Core.List.{List, []}
 use mathlib.Core.Logic.{_⊎_, ⊎-elim}
@@ -12,22 +12,25 @@ use Rattle.std.proofs.shelf.Bits.{mul-add-lt, mod-below, div-below, div-add-mod
 use Rattle.std.proofs.shelf.Lists.{ext-getD, getD-drop, length-drop}
 use Rattle.std.proofs.shelf.Tests.{and-from, and-left, and-right, le-leb, lt-leb, cond-true, cond-false}
 use Rattle.std.specs.declared.option.Option.the-variants.{Some}
+use Rattle.std.specs.declared.result.Result.{Result}
+use Rattle.std.specs.declared.result.Result.the-variants.{Ok}
 use Rattle.pixel.specs.Ops.{Ops}
+use Rattle.picture.specs.declared.fault.Refusal.{Refusal}
 use Rattle.picture.specs.declared.rect.Rect.{Rect}
-use Rattle.picture.specs.Refusals.{done, refused}
+use Rattle.picture.specs.Refusals.{done, refused, outcome}
 use Rattle.picture.specs.Images.{Image, Model}
-use Rattle.picture.specs.Prepare.{up, area, inside, nth, answer, Shown, filled}
+use Rattle.picture.specs.Prepare.{up, area, inside, nth, answer, Shown, filled, Prepared}
 use Rattle.picture.specs.Region.{Within}
 use Rattle.cache.specs.declared.cache.Cache.{Cache}
 use Rattle.cache.specs.declared.shape.TileShape.{TileShape}
 use Rattle.cache.specs.declared.tiles.Tiles.{Tiles}
-use Rattle.cache.specs.Machine.{State, Walk, ended, settled, Accounts, Once}
+use Rattle.cache.specs.Machine.{State, Walk, going, ended, settled, Accounts, Once}
 use Rattle.cache.specs.Order.{none}
 use Rattle.cache.specs.Grid.{across, down}
 use Rattle.cache.specs.Boxes.{spot, Beyond}
 use Rattle.cache.specs.Slots.{state, Ready}
-use Rattle.cache.specs.Walks.{overTiles, Served}
-use Rattle.cache.specs.Caching.{prepared, stateOf, Sound, Worked}
+use Rattle.cache.specs.Walks.{overTiles, Served, Went}
+use Rattle.cache.specs.Caching.{prepared, stateOf, modelOf, Sound, Worked}
 use Rattle.cache.proofs.Listing.{length-listed}
 use Rattle.cache.proofs.Keeping.{long}
 use Rattle.cache.proofs.Pixels.{serves, filled-over}
@@ -58,17 +61,17 @@ module _ {K S : Type 0} (o : Ops K S) (b : Image K) (s : TileShape) (rect : Rect
 
   module _ (buf : List ℕ) (x : rect .left + rect .width ≤ b .width) (y : rect .top + rect .height ≤ b .height) (z : area rect ≤ length buf) where
     -- past the refusals 10 and 11
-    pub past : (inside b rect && leb (area rect) (length buf)) ≡ true
+    past : (inside b rect && leb (area rect) (length buf)) ≡ true
     past = and-from _ _ (and-from _ _ (le-leb _ _ x) (le-leb _ _ y)) (le-leb _ _ z)
 
-    pub machine : (w : Walk) (st : State) → w ≡ overTiles b s rect st → settled w ≡ prepared b s rect (length buf) st
+    machine : (w : Walk) (st : State) → w ≡ overTiles b s rect st → settled w ≡ prepared b s rect (length buf) st
     machine w st e = ap settled e ∙ sym (cond-true (inside b rect && leb (area rect) (length buf)) _ _ past)
 
-    pub by-tiles : (to : List ℕ) → length to ≡ length buf → Beyond rect buf to → Served o b s rect to (across s rect * down s rect)
+    by-tiles : (to : List ℕ) → length to ≡ length buf → Beyond rect buf to → Served o b s rect to (across s rect * down s rect)
         → (done ≡ answer b rect (length buf)) × (to ≡ filled o b rect buf)
     by-tiles to len beyond served = serves o b rect buf x y z to len (served-each to served) (beyond-drop rect buf to len beyond)
 
-    pub by-below : (to : List ℕ) → length to ≡ length buf → Beyond rect buf to → filled o b rect to ≡ filled o b rect buf
+    by-below : (to : List ℕ) → length to ≡ length buf → Beyond rect buf to → filled o b rect to ≡ filled o b rect buf
     by-below to len beyond = filled-over o b rect buf x y z to len (beyond-drop rect buf to len beyond)
 
   module _ (buf : List ℕ) where
@@ -92,18 +95,18 @@ module _ {K S : Type 0} (o : Ops K S) (b : Image K) (s : TileShape) (rect : Rect
         (sym (cond-true (inside b rect) _ _ in-it ∙ cond-false (leb (area rect) (length buf)) _ _ short), e .0, e .1)
 
 -- the slots with another count of bypasses
-abbrev pub counting : Tiles → ℕ → Tiles
+abbrev counting : Tiles → ℕ → Tiles
 counting t n = record { held = t .held; len = t .len; entries = t .entries; hits = t .hits; fetches = t .fetches; bypasses = n }
 
-pub bypass-ready : {K S : Type 0} (o : Ops K S) (b : Image K) (s : TileShape) (t : Tiles) (n : ℕ) → Ready o b s t → Ready o b s (counting t n)
+bypass-ready : {K S : Type 0} (o : Ops K S) (b : Image K) (s : TileShape) (t : Tiles) (n : ℕ) → Ready o b s t → Ready o b s (counting t n)
 bypass-ready o b s t n h = record { few = h .few; long = h .long; room = h .room; own = h .own; apart = h .apart; good = h .good }
 
-pub bypass-state : (t : Tiles) (n n′ y : ℕ) → y ≡ up (t .bypasses) → n′ ≡ up n → state (counting t y) n′ ≡ settled (ended (state t n))
+bypass-state : (t : Tiles) (n n′ y : ℕ) → y ≡ up (t .bypasses) → n′ ≡ up n → state (counting t y) n′ ≡ settled (ended (state t n))
 bypass-state t n n′ y e f = ap (λ v. state (counting t v) n′) e ∙ ap (λ v. state (counting t (up (t .bypasses))) v) f
 
 module _ {P K S : Type 0} (o : Ops K S) (model : P → Model K) (count : P → ℕ) (sound : P → Type 0) where
   -- the laws of the machine, for a cache that does what the machine does
-  pub worked : (c d : Cache P) (r : Rect) (n : ℕ) → Sound o model sound c → d .shape ≡ c .shape → stateOf count d ≡ prepared (model (c .below) .shown) (c .shape) r n (stateOf count c)
+  worked : (c d : Cache P) (r : Rect) (n : ℕ) → Sound o model sound c → d .shape ≡ c .shape → stateOf count d ≡ prepared (model (c .below) .shown) (c .shape) r n (stateOf count c)
       → Worked model count c r n d
   worked c d r n h shape e =
       let b = model (c .below) .shown in
@@ -118,3 +121,53 @@ module _ {P K S : Type 0} (o : Ops K S) (model : P → Model K) (count : P → �
         accounts = subst (Accounts st) (sym e) (accounts-prepared b (c .shape) r n st);
         held = λ all. ap (λ (v : State). v .asked) e ∙ quiet-prepared b (c .shape) r n st all;
       }
+
+  module _ (c : Cache P) (h : Sound o model sound c) (r : Rect) (buf : List ℕ) (n : ℕ) (counted : n ≡ up (c .count)) where
+    abbrev Both : Result Unit Refusal → Cache P → List ℕ → Type 0
+    Both a d after = Prepared o (modelOf model) (λ v. v .count) (Sound o model sound) c r buf a d after × Worked model count c r (length buf) d
+
+    abbrev image : Image K
+    image = model (c .below) .shown
+
+    -- refused with 10 or 11
+    pub refused-so : (a : Result Unit Refusal) → (outcome a ≡ answer image r (length buf)) × (buf ≡ filled o image r buf) × ((st : State) → st ≡ prepared image (c .shape) r (length buf) st)
+        → Both a (record { below = c .below; shape = c .shape; tiles = c .tiles; count = n }) buf
+    refused-so a f =
+        let d : Cache P = record { below = c .below; shape = c .shape; tiles = c .tiles; count = n } in (
+          record { answers = f .0; fills = f .1; counts = counted; keeps = refl; stays = record { below = h .below; ready = h .ready; once = h .once } },
+          worked c d r (length buf) h refl (f .2 (stateOf count c)),
+        )
+
+    module _ (x : r .left + r .width ≤ image .width) (y : r .top + r .height ≤ image .height) (z : area r ≤ length buf) (v : P) (w : Tiles) (to : List ℕ) (len : length to ≡ length buf) (beyond : Beyond r buf to) where
+      -- served by tiles
+      pub served-so : Went o model count sound (c .shape) (overTiles image (c .shape) r) (c .below) (c .tiles) true v w → Served o image (c .shape) r to (across (c .shape) r * down (c .shape) r)
+          → Both (Ok tt) (record { below = v; shape = c .shape; tiles = w; count = n }) to
+      served-so went served =
+          let d : Cache P = record { below = v; shape = c .shape; tiles = w; count = n } in
+          let f = by-tiles o image (c .shape) r buf x y z to len beyond served in
+          let k = worked c d r (length buf) h refl (machine o image (c .shape) r buf x y z (going (state w (count v))) (stateOf count c) (went .machine)) in (
+            record { answers = f .0; fills = f .1; counts = counted; keeps = went .keeps; stays = record { below = went .below; ready = went .ready; once = k .once } },
+            k,
+          )
+
+      -- passed on below
+      pub passed-so : Went o model count sound (c .shape) (overTiles image (c .shape) r) (c .below) (c .tiles) false v w
+          → (a : Result Unit Refusal) (q : P) (after : List ℕ) (m : ℕ) → m ≡ up (w .bypasses) → Prepared o model count sound v r to a q after
+          → Both a (record { below = q; shape = c .shape; tiles = counting w m; count = n }) after
+      passed-so went a q after m e prep =
+          let d : Cache P = record { below = q; shape = c .shape; tiles = counting w m; count = n } in
+          let st = bypass-state w (count v) (count q) m e (prep .counts) ∙ machine o image (c .shape) r buf x y z (ended (state w (count v))) (stateOf count c) (went .machine) in
+          let k = worked c d r (length buf) h refl st in (
+            record {
+              answers = prep .answers ∙ ap (λ (i : Model K). answer (i .shown) r (length to)) (went .keeps) ∙ ap (answer image r) len;
+              fills = prep .fills ∙ ap (λ (i : Model K). filled o (i .shown) r to) (went .keeps) ∙ by-below o image (c .shape) r buf x y z to len beyond;
+              counts = counted;
+              keeps = prep .keeps ∙ went .keeps;
+              stays = record {
+                below = prep .stays;
+                ready = bypass-ready o _ (c .shape) w m (subst (λ (i : Model K). Ready o (i .shown) (c .shape) w) (sym (prep .keeps)) (went .ready));
+                once = k .once;
+              };
+            },
+            k,
+          )

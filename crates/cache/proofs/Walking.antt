@@ -1,6 +1,6 @@
 -- The walk over the tiles that a rectangle touches.
 use mathlib.Core.Path.{_≡_, refl, sym, _∙_, ap, subst}
-use mathlib.Core.Bool.{Bool}
+use mathlib.Core.Bool.{Bool, true, false}
 use mathlib.Core.List.{List}
 use mathlib.Core.Logic.{_⊎_, ⊎-elim}
 use Prim.Native.Nat.{ℕ, zero, suc, _+_, _-_, _*_, _/_, _%_, _<_, _≤_}
@@ -13,7 +13,7 @@ use Rattle.std.proofs.shelf.Tests.{cases-eq}
 use Rattle.std.specs.declared.option.Option.the-variants.{Some}
 use Rattle.pixel.specs.Ops.{Ops}
 use Rattle.picture.specs.declared.rect.Rect.{Rect}
-use Rattle.picture.specs.Images.{Image}
+use Rattle.picture.specs.Images.{Image, Model}
 use Rattle.picture.specs.Prepare.{coded}
 use Rattle.picture.specs.Region.{Within}
 use Rattle.cache.specs.declared.held.Held.{Held}
@@ -22,10 +22,10 @@ use Rattle.cache.specs.declared.tile.Tile.{Tile}
 use Rattle.cache.specs.declared.tiles.Tiles.{Tiles}
 use Rattle.cache.specs.Machine.{State, Walk, going, ended, visited, stepped, walked}
 use Rattle.cache.specs.Order.{none, slotAt}
-use Rattle.cache.specs.Grid.{Covers, tileWidth, tileHeight, span, across, down, touched}
+use Rattle.cache.specs.Grid.{Covers, whole, tileWidth, tileHeight, span, across, down, touched}
 use Rattle.cache.specs.Boxes.{spot, Overlaid}
-use Rattle.cache.specs.Slots.{base, Front, Good, Ready}
-use Rattle.cache.specs.Walks.{Served}
+use Rattle.cache.specs.Slots.{base, state, Front, Good, Ready}
+use Rattle.cache.specs.Walks.{walkOf, Served, Went}
 
 pub div-up : (d a b : ℕ) → 0 < d → a ≤ b → a / d ≤ b / d
 div-up d a b pos le = le-div (a / d) b d pos (omega (arith, div-mul-le-self a d))
@@ -60,17 +60,45 @@ in-div x side c le lt =
     ap (λ n. n / side) (sym e) ∙ div-mul-add c side (x - c * side) (omega arith)
 
 module _ (slots : ℕ) (whole : Tile → Bool) (f : ℕ → Tile) (s : State) where
-  pub walk-more : (n : ℕ) (st : State) (w : Walk) → walked slots whole f n s ≡ going st → w ≡ visited slots whole st (f n) → walked slots whole f (n + 1) s ≡ w
+  walk-more : (n : ℕ) (st : State) (w : Walk) → walked slots whole f n s ≡ going st → w ≡ visited slots whole st (f n) → walked slots whole f (n + 1) s ≡ w
   walk-more n st w e h = ap (λ m. walked slots whole f m s) (add-one n) ∙ ap (λ v. stepped slots whole v (f n)) e ∙ sym h
 
   walk-stays : (n d : ℕ) (st : State) → walked slots whole f n s ≡ ended st → walked slots whole f (n + d) s ≡ ended st
   walk-stays n zero st e = ap (λ m. walked slots whole f m s) (add-zero n) ∙ e
   walk-stays n (suc d) st e = ap (λ m. walked slots whole f m s) (add-suc n d) ∙ ap (λ v. stepped slots whole v (f (n + d))) (walk-stays n d st e)
 
-  pub walk-ends : (n m : ℕ) (st : State) → n ≤ m → walked slots whole f n s ≡ ended st → walked slots whole f m s ≡ ended st
+  walk-ends : (n m : ℕ) (st : State) → n ≤ m → walked slots whole f n s ≡ ended st → walked slots whole f m s ≡ ended st
   walk-ends n m st le e =
       let q : n + (m - n) ≡ m = omega arith in
       ap (λ k. walked slots whole f k s) (sym q) ∙ walk-stays n (m - n) st e
+
+-- the walk of a cache, where p and t have become q and u and then v and w
+module _ {P K S : Type 0} (o : Ops K S) (model : P → Model K) (count : P → ℕ) (sound : P → Type 0) (s : TileShape) (f : ℕ → Tile) (p : P) (t : Tiles) where
+  abbrev pub sofar : ℕ → State → Walk
+  sofar k = walked (s .slots) (whole (model p .shown) s) f k
+
+  pub went-more : (q v : P) (u w : Tiles) (k : ℕ) (x : Tile) (on : Bool) → x ≡ f k → Went o model count sound s (sofar k) p t true q u
+      → Went o model count sound s (λ st. visited (s .slots) (whole (model q .shown) s) st x) q u on v w → Went o model count sound s (sofar (k + 1)) p t on v w
+  went-more q v u w k x on e a h =
+      let b = model p .shown in
+      let st = state u (count q) in
+      let m : walkOf on (state w (count v)) ≡ visited (s .slots) (whole b s) st (f k) =
+      h .machine ∙ ap (λ (n : Model K). visited (s .slots) (whole (n .shown) s) st x) (a .keeps) ∙ ap (visited (s .slots) (whole b s) st) e in
+      record {
+        machine = sym (walk-more (s .slots) (whole b s) f (state t (count p)) k st (walkOf on (state w (count v))) (sym (a .machine)) m);
+        keeps = h .keeps ∙ a .keeps;
+        below = h .below;
+        ready = h .ready;
+      }
+
+  pub went-ended : (v : P) (w : Tiles) (k n : ℕ) → k ≤ n → Went o model count sound s (sofar k) p t false v w → Went o model count sound s (sofar n) p t false v w
+  went-ended v w k n le h =
+      record {
+        machine = sym (walk-ends (s .slots) (whole (model p .shown) s) f (state t (count p)) k n (state w (count v)) le (sym (h .machine)));
+        keeps = h .keeps;
+        below = h .below;
+        ready = h .ready;
+      }
 
 module _ {K S : Type 0} (o : Ops K S) (b : Image K) (s : TileShape) where
   -- a slot that holds its tile, place by place

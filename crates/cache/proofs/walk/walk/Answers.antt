@@ -1,14 +1,14 @@
+use mathlib.Core.Bool.{true, false}
 use mathlib.Core.Path.{_≡_, sym, _∙_, ap, subst}
 use Prim.Native.Nat.{ℕ, _+_, _*_, _/_, _%_, _<_, _≤_}
 use native.Mathlib.Omega.{arith}
 use Rattle.picture.specs.Images.{Model}
 use Rattle.cache.specs.declared.tile.Tile.{Tile}
-use Rattle.cache.specs.Machine.{going, ended, visited}
-use Rattle.cache.specs.Grid.{whole, touched, across, down}
-use Rattle.cache.specs.Slots.{Ready, state}
+use Rattle.cache.specs.Grid.{touched, across, down}
+use Rattle.cache.specs.Slots.{Ready}
 use Rattle.cache.proofs.Keeping.{small-area}
 use Rattle.cache.proofs.Fetching.{covers-in}
-use Rattle.cache.proofs.Walking.{Kth, kth, served-more, walk-more, walk-ends}
+use Rattle.cache.proofs.Walking.{kth, served-more, went-more, went-ended}
 use Rattle.cache.proofs.walk.walk.Needs as need
 
 pub visit-requires : need.visit-requires
@@ -46,28 +46,15 @@ overlay-requires g c κs =
 
 pub returns-then-not-visit : need.returns-then-not-visit
 returns-then-not-visit g c =
-    let b = g .P·Picture .model (c .args .below .now) .shown in
     let s = c .args .shape in
     let rect = c .args .rect in
     let k = c .loop-k .k in
     let n = c .reach-across .result in
-    let t : Tile = record { column = rect .left / s .width + k % n; row = rect .top / s .height + k / n } in
-    let st = state (c .loop-k .tiles) (g .P·Picture .count (c .loop-k .below)) in
-    let s0 = state (c .args .tiles .now) (g .P·Picture .count (c .args .below .now)) in
-    let st′ = state (c .visit .last .tiles) (g .P·Picture .count (c .visit .last .below)) in
+    let x : Tile = record { column = rect .left / s .width + k % n; row = rect .top / s .height + k / n } in
     let q = kth s rect k n _ (c .reach-across .ensures .is) (c .reach-down .ensures .is) (c .loop-k-test .taken) (c .reach-across .ensures .some) in
-    let v = c .loop-k .inv .0 in
-    let w = c .visit .ensures .went in
-    let m : ended st′ ≡ visited (s .slots) (whole b s) st (touched s rect k) =
-    c .if-not-visit .ensures tt .went .machine ∙ ap (λ (x : Model (g .P·Pixel .Denot)). visited (s .slots) (whole (x .shown) s) st t) (v .keeps)
-    ∙ ap (λ x. visited (s .slots) (whole b s) st x) (q .is) in
+    let w = went-more _ _ _ _ s (touched s rect) (c .args .below .now) (c .args .tiles .now) (c .loop-k .below) (c .visit .last .below) (c .loop-k .tiles) (c .visit .last .tiles) k x false (q .is) (c .loop-k .inv .0) (c .if-not-visit .ensures tt .went) in
     record {
-      went = record {
-        machine = sym (walk-ends (s .slots) (whole b s) (touched s rect) s0 (k + 1) (across s rect * down s rect) st′ (q .next) (walk-more (s .slots) (whole b s) (touched s rect) s0 k st (ended st′) (sym (v .machine)) m));
-        keeps = w .keeps ∙ v .keeps;
-        below = w .below;
-        ready = w .ready;
-      };
+      went = went-ended _ _ _ _ s (touched s rect) (c .args .below .now) (c .args .tiles .now) (c .visit .last .below) (c .visit .last .tiles) (k + 1) (across s rect * down s rect) (q .next) w;
       served = λ h. let z : _≡_ {A = ℕ} 0 1 = cc in absurd (omega arith);
       rest = c .loop-k .inv .2;
     }
@@ -80,25 +67,13 @@ loop-k-again g c =
     let rect = c .args .rect in
     let k = c .loop-k .k in
     let n = c .reach-across .result in
-    let t : Tile = record { column = rect .left / s .width + k % n; row = rect .top / s .height + k / n } in
-    let st = state (c .loop-k .tiles) (g .P·Picture .count (c .loop-k .below)) in
-    let s0 = state (c .args .tiles .now) (g .P·Picture .count (c .args .below .now)) in
-    let st′ = state (c .visit .last .tiles) (g .P·Picture .count (c .visit .last .below)) in
+    let x : Tile = record { column = rect .left / s .width + k % n; row = rect .top / s .height + k / n } in
     let q = kth s rect k n _ (c .reach-across .ensures .is) (c .reach-down .ensures .is) (c .loop-k-test .taken) (c .reach-across .ensures .some) in
-    let v = c .loop-k .inv .0 in
-    let w = c .visit .ensures .went in
-    let m : going st′ ≡ visited (s .slots) (whole b s) st (touched s rect k) =
-    c .if-not-visit .ensures tt .went .machine ∙ ap (λ (x : Model (g .P·Pixel .Denot)). visited (s .slots) (whole (x .shown) s) st t) (v .keeps)
-    ∙ ap (λ x. visited (s .slots) (whole b s) st x) (q .is) in
-    let ready : Ready o b s (c .visit .last .tiles) = subst (λ (x : Model (g .P·Pixel .Denot)). Ready o (x .shown) s (c .visit .last .tiles)) (w .keeps ∙ v .keeps) (w .ready) in
-    let covers = covers-in s _ _ _ _ t (c .cell-place .result) (c .pre .stands .wide) (c .pre .stands .high) (c .cell-place .ensures) in (
-      record {
-        machine = sym (walk-more (s .slots) (whole b s) (touched s rect) s0 k st (going st′) (sym (v .machine)) m);
-        keeps = w .keeps ∙ v .keeps;
-        below = w .below;
-        ready = w .ready;
-      },
-      served-more o b s rect (omega (arith, c .pre .across, c .pre .stands .wide)) (omega (arith, c .pre .down, c .pre .stands .high)) (c .visit .last .tiles) k t (c .cell-place .result) (c .loop-k .buffer) (c .overlay .last .to) ready (q .is)
+    let w = went-more _ _ _ _ s (touched s rect) (c .args .below .now) (c .args .tiles .now) (c .loop-k .below) (c .visit .last .below) (c .loop-k .tiles) (c .visit .last .tiles) k x true (q .is) (c .loop-k .inv .0) (c .if-not-visit .ensures tt .went) in
+    let ready : Ready o b s (c .visit .last .tiles) = subst (λ (m : Model (g .P·Pixel .Denot)). Ready o (m .shown) s (c .visit .last .tiles)) (w .keeps) (w .ready) in
+    let covers = covers-in s _ _ _ _ x (c .cell-place .result) (c .pre .stands .wide) (c .pre .stands .high) (c .cell-place .ensures) in (
+      w,
+      served-more o b s rect (omega (arith, c .pre .across, c .pre .stands .wide)) (omega (arith, c .pre .down, c .pre .stands .high)) (c .visit .last .tiles) k x (c .cell-place .result) (c .loop-k .buffer) (c .overlay .last .to) ready (q .is)
           (c .visit .ensures .front (c .if-not-visit .left)) covers (c .overlay .ensures) (c .loop-k .inv .1),
       λ j h. c .overlay .ensures .rest j h ∙ c .loop-k .inv .2 j h,
     )
