@@ -25,7 +25,7 @@ use Rattle.cache.specs.declared.held.Held.{Held}
 use Rattle.cache.specs.declared.shape.TileShape.{TileShape}
 use Rattle.cache.specs.declared.tile.Tile.{Tile}
 use Rattle.cache.specs.declared.tiles.Tiles.{Tiles}
-use Rattle.cache.specs.Machine.{State, Walk, going, ended, same, lists, hit, fetched, denied, visited}
+use Rattle.cache.specs.Machine.{State, Walk, going, ended, same, lists, hit, missed, visited}
 use Rattle.cache.specs.Order.{none, tileAt, slotAt, listed}
 use Rattle.cache.specs.Grid.{Covers, tileWidth, tileNth, whole}
 use Rattle.cache.specs.Slots.{base, state, again, entered, admitted, holding, Front, Ready}
@@ -66,12 +66,12 @@ module _ {K S : Type 0} (o : Ops K S) (b : Image K) (s : TileShape) (t : Tiles) 
       ap going (stated _ _ _ _ _ _ _ (w .1) refl) ∙ sym (cond-true (lists (listed (t .held) (t .len)) x) _ _ (w .0))
 
   miss-machine : (w : Walk) (asked : ℕ) → ((k : ℕ) → k < t .len → same (tileAt (t .held) k) x ≡ false)
-      → w ≡ cond (whole b s x) (going (fetched (s .slots) (state t asked) x)) (ended (denied (state t asked)))
+      → w ≡ missed (s .slots) (whole b s) (state t asked) x
       → w ≡ visited (s .slots) (whole b s) (state t asked) x
   miss-machine w asked h e = e ∙ sym (cond-false (lists (listed (t .held) (t .len)) x) _ _ (listed-miss (t .held) (t .len) x room h))
 
   fetch-machine : (es : List ℕ) (asked asked′ : ℕ) → asked′ ≡ up asked → whole b s x ≡ true
-      → going (state (admitted (s .slots) x (holding t es)) asked′) ≡ cond (whole b s x) (going (fetched (s .slots) (state t asked) x)) (ended (denied (state t asked)))
+      → going (state (admitted (s .slots) x (holding t es)) asked′) ≡ missed (s .slots) (whole b s) (state t asked) x
   fetch-machine es asked asked′ e w =
       let new : (min (t .len + 1) (s .slots) ≡ t .len + 1) ⊎ ((min (t .len + 1) (s .slots) ≡ s .slots) × (t .len ≡ s .slots)) =
       ⊎-elim (λ (l : t .len < s .slots). inl (omega arith)) (λ (l : s .slots ≤ t .len). inr (omega (arith, ready .few), omega (arith, ready .few))) (cases-lt (t .len) (s .slots)) in
@@ -79,7 +79,7 @@ module _ {K S : Type 0} (o : Ops K S) (b : Image K) (s : TileShape) (t : Tiles) 
       ∙ sym (cond-true (whole b s x) _ _ w)
 
   refuse-machine : (es : List ℕ) (asked asked′ : ℕ) → asked′ ≡ up asked → whole b s x ≡ false
-      → ended (state (holding t es) asked′) ≡ cond (whole b s x) (going (fetched (s .slots) (state t asked) x)) (ended (denied (state t asked)))
+      → ended (state (holding t es) asked′) ≡ missed (s .slots) (whole b s) (state t asked) x
   refuse-machine es asked asked′ e w = ap ended (stated _ _ _ _ _ _ _ refl e) ∙ sym (cond-false (whole b s x) _ _ w)
 
   pub front-again : (i : ℕ) (w : Tiles) → w ≡ again t i → i < t .len → same (tileAt (t .held) i) x ≡ true → Front w x
@@ -141,7 +141,7 @@ module _ {P K S : Type 0} (o : Ops K S) (model : P → Model K) (count : P → �
       })
 
   pub went-miss : (q : P) (w : Tiles) (on : Bool) → ((k : ℕ) → k < t .len → same (tileAt (t .held) k) x ≡ false)
-      → Went o model count sound s (λ st. cond (whole (model p .shown) s x) (going (fetched (s .slots) st x)) (ended (denied st))) p t on q w → Went o model count sound s visiting p t on q w
+      → Went o model count sound s (λ st. missed (s .slots) (whole (model p .shown) s) st x) p t on q w → Went o model count sound s visiting p t on q w
   went-miss q w on h e =
       record {
         machine = miss-machine o (model p .shown) s t (stands .ready) x (walkOf on (state w (count q))) (count p) h (e .machine);
@@ -155,7 +155,7 @@ module _ {P K S : Type 0} (o : Ops K S) (model : P → Model K) (count : P → �
     (rect : Rect) (covers : Covers s (size .width) (size .height) x rect) (u : x .column * s .width < size .width) (v : x .row * s .height < size .height) (n : ℕ) (a : n ≡ area rect)
     (ys : List ℕ) (r : Result Unit Refusal) (prep : Prepared o model count sound p rect (part t n) r q ys) (m : length ys ≡ length (part t n)) where
   abbrev fetching : State → Walk
-  fetching st = cond (whole (model p .shown) s x) (going (fetched (s .slots) st x)) (ended (denied st))
+  fetching st = missed (s .slots) (whole (model p .shown) s) st x
 
   over : Covers s (model p .shown .width) (model p .shown .height) x rect
   over = covers-in s _ _ _ _ x rect (stands .wide) (stands .high) covers

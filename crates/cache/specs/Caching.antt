@@ -26,6 +26,7 @@ abbrev pub AllListed : TileShape → Rect → State → Type 0
 AllListed s r st = (k : ℕ) → k < across s r * down s r → lists (st .tiles) (touched s r k) ≡ true
 
 module _ {P : Type 0} (count : P → ℕ) where
+  -- the machine's state, which the cache determines
   abbrev pub stateOf : Cache P → State
   stateOf c = state (c .tiles) (count (c .below))
 
@@ -35,6 +36,7 @@ module _ {P : Type 0} (bare : P → Type 0) where
   Bare c = (c .tiles .len ≡ 0) × bare (c .below)
 
 module _ {P K : Type 0} (model : P → Model K) where
+  -- it shows what the picture below shows
   abbrev pub modelOf : Cache P → Model K
   modelOf c = model (c .below)
 
@@ -58,11 +60,15 @@ module _ {P K : Type 0} (model : P → Model K) (count : P → ℕ) where
   -- a prepare of c into a buffer of n entries, which is d behind it
   pub record Worked (c : Cache P) (r : Rect) (n : ℕ) (d : Cache P) : Type 0 where
     pub shape : d .shape ≡ c .shape
+    -- the list, the three counts and the count below are those of the machine
     pub machine : stateOf count d ≡ prepared (model (c .below) .shown) (c .shape) r n (stateOf count c)
+    -- no tile is listed twice
     pub once : Once (stateOf count d .tiles)
+    -- and there are at most as many as the slots
     pub few : length (stateOf count d .tiles) ≤ c .shape .slots
+    -- below was asked once for each fetch and twice for each bypass
     pub accounts : Accounts (stateOf count c) (stateOf count d)
-    -- what is held is not prepared below again
+    -- where all is held, nothing is prepared below
     pub held : AllListed (c .shape) r (stateOf count c) → count (d .below) ≡ count (c .below)
 
 module _ {P : Type 0} (count : P → ℕ) where

@@ -59,8 +59,12 @@ pub data Walk : Type 0 where
 
 -- `whole` says of a tile that it has no hole below
 module _ (slots : ℕ) (whole : Tile → Bool) where
+  -- a tile that is not listed is prepared whole below
+  abbrev pub missed : State → Tile → Walk
+  missed s t = cond (whole t) (going (fetched slots s t)) (ended (denied s))
+
   abbrev pub visited : State → Tile → Walk
-  visited s t = cond (lists (s .tiles) t) (going (hit s t)) (cond (whole t) (going (fetched slots s t)) (ended (denied s)))
+  visited s t = cond (lists (s .tiles) t) (going (hit s t)) (missed s t)
 
   abbrev pub stepped : Walk → Tile → Walk
   stepped (going s) t = visited s t

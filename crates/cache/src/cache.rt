@@ -75,7 +75,7 @@ impl<P: Picture> Cache<P> {
         }
     }
 
-    /// How often a tile was held, prepared below, or the rectangle itself passed on.
+    /// The hits, fetches and bypasses so far.
     pub fn counts(&self) -> Counts
         ensures { λ r. ⌜ r ≡ countsOf (stateOf (P·Picture .count) (now (self .entry))) ⌝ }
     {
@@ -102,6 +102,7 @@ pub impl<P: Picture> Picture for Cache<P> as CachePicture {
         self.below.size()
     }
 
+    /// By tiles; where one is refused below, the rectangle itself is prepared there.
     fn prepare(&mut self, rect: Rect, buffer: &mut [u64]) -> Result<(), Refusal>
         requires { ⌜ Sound (Pixel·Kind .ops) (P·Picture .model) (P·Picture .sound) (now self) ⌝ }
         ensures prepared { λ r. ⌜ Prepared (Pixel·Kind .ops) (modelOf (P·Picture .model)) (λ c. c .count) (Sound (Pixel·Kind .ops) (P·Picture .model) (P·Picture .sound)) (now (self .entry)) rect (now (buffer .entry)) r (now (self .exit)) (now (buffer .exit)) ⌝ }
@@ -127,6 +128,7 @@ pub impl<P: Picture> Picture for Cache<P> as CachePicture {
         self.count
     }
 
+    /// Empties the list, here and below, and keeps the counts.
     fn forget(&mut self)
         requires { ⌜ Sound (Pixel·Kind .ops) (P·Picture .model) (P·Picture .sound) (now self) ⌝ }
         ensures forgot { λ _. ⌜ Forgot (modelOf (P·Picture .model)) (λ c. c .count) (Sound (Pixel·Kind .ops) (P·Picture .model) (P·Picture .sound)) (Bare (P·Picture .bare)) (now (self .entry)) (now (self .exit)) ⌝ }

@@ -1,9 +1,9 @@
 ghost use mathlib.Core.Path.{_≡_};
-ghost use mathlib.Core.Bool.{true, cond};
+ghost use mathlib.Core.Bool.{true};
 ghost use Prim.Native.Nat.{ℕ, _+_, _*_, _<_, _≤_};
 ghost use Rattle.picture.specs.Prepare.{up};
 ghost use Rattle.cache.specs.Limits.{mostTiles, slotCount};
-ghost use Rattle.cache.specs.Machine.{going, ended, fetched, denied, visited};
+ghost use Rattle.cache.specs.Machine.{missed, visited};
 ghost use Rattle.cache.specs.Grid.{Covers, whole};
 ghost use Rattle.cache.specs.Slots.{Front, again, admitted};
 ghost use Rattle.cache.specs.Walks.{Stands, Went};
@@ -75,7 +75,7 @@ fn fetch<P: Picture>(
     requires stands { ⌜ Stands (Pixel·Kind .ops) (P·Picture .model) (P·Picture .sound) shape size (now below) (now tiles) ⌝ }
     requires across { ⌜ tile .column * shape .width < size .width ⌝ }
     requires down { ⌜ tile .row * shape .height < size .height ⌝ }
-    ensures went { λ r. ⌜ Went (Pixel·Kind .ops) (P·Picture .model) (P·Picture .count) (P·Picture .sound) shape (λ s. cond (whole (P·Picture .model (now (below .entry)) .shown) shape tile) (going (fetched (shape .slots) s tile)) (ended (denied s))) (now (below .entry)) (now (tiles .entry)) r (now (below .exit)) (now (tiles .exit)) ⌝ }
+    ensures went { λ r. ⌜ Went (Pixel·Kind .ops) (P·Picture .model) (P·Picture .count) (P·Picture .sound) shape (λ s. missed (shape .slots) (whole (P·Picture .model (now (below .entry)) .shown) shape) s tile) (now (below .entry)) (now (tiles .entry)) r (now (below .exit)) (now (tiles .exit)) ⌝ }
     ensures front { λ r. ⌜ (r ≡ true → Front (now (tiles .exit)) tile) ⌝ }
 {
     let start = tiles.held[tiles.len].slot as usize * PLACES;
