@@ -4,18 +4,18 @@ use mathlib.Core.Path.{_≡_, refl, sym, _∙_, ap, subst}
 use mathlib.Core.Bool.{Bool, true, false, cond, _&&_}
 use mathlib.Core.List.{List, [], _∷_}
 use mathlib.Core.Logic.{_⊎_, ⊎-elim}
-use Prim.Native.Nat.{ℕ, zero, suc, _+_, _-_, _*_, _^_, _<_, _≤_, min}
+use Prim.Native.Nat.{ℕ, zero, suc, _+_, _-_, _*_, _^_, _<_, _≤_}
 use native.Mathlib.Omega.{arith}
-use lib.Dec.{leb, eqb}
+use lib.Dec.{leb}
 use lib.ListN.{length, take}
 use Rattle.std.proofs.shelf.Lists.{length-take}
-use Rattle.std.proofs.shelf.Tests.{and-from, eq-eqb, cond-true, cond-false, cond-both, cases-bool, both-ways}
+use Rattle.std.proofs.shelf.Tests.{cond-true, cond-false, cond-both, cases-bool, both-ways}
 use Rattle.picture.specs.declared.rect.Rect.{Rect}
 use Rattle.picture.specs.Images.{Image}
 use Rattle.picture.specs.Prepare.{inside, area}
 use Rattle.cache.specs.declared.shape.TileShape.{TileShape}
 use Rattle.cache.specs.declared.tile.Tile.{Tile}
-use Rattle.cache.specs.Machine.{State, Walk, going, ended, same, lists, without, hit, fetched, visited, stepped, walked, settled, Once, Accounts}
+use Rattle.cache.specs.Machine.{State, Walk, going, ended, same, lists, without, visited, stepped, walked, settled, Once, Accounts}
 use Rattle.cache.specs.Grid.{whole, across, down, touched}
 use Rattle.cache.specs.Walks.{overTiles}
 use Rattle.cache.specs.Caching.{prepared, AllListed}

@@ -1,11 +1,11 @@
 -- A tile that is visited: a hit, a fetch, or a refusal.
 use mathlib.Core.Path.{_≡_, refl, sym, _∙_, ap, subst}
-use mathlib.Core.Bool.{Bool, true, false, cond, not}
+use mathlib.Core.Bool.{Bool, true, false, not}
 use mathlib.Core.List.{List}
 use mathlib.Core.Logic.{_⊎_, inl, inr, ⊎-elim}
 use Prim.Native.Nat.{ℕ, _+_, _-_, _*_, _/_, _%_, _<_, _≤_, min}
 use native.Mathlib.Omega.{arith}
-use lib.ListN.{length, getD, take, drop}
+use lib.ListN.{length, take, drop}
 use borrow.Rule.Slice.PartMut.{putMid}
 use Rattle.std.proofs.shelf.Lists.{getD-set-same, length-take-le, length-drop}
 use Rattle.std.proofs.shelf.Tests.{cond-true, cond-false, cases-lt}
@@ -25,7 +25,7 @@ use Rattle.cache.specs.declared.held.Held.{Held}
 use Rattle.cache.specs.declared.shape.TileShape.{TileShape}
 use Rattle.cache.specs.declared.tile.Tile.{Tile}
 use Rattle.cache.specs.declared.tiles.Tiles.{Tiles}
-use Rattle.cache.specs.Machine.{State, Walk, going, ended, same, lists, hit, missed, visited}
+use Rattle.cache.specs.Machine.{State, Walk, going, ended, same, lists, missed, visited}
 use Rattle.cache.specs.Order.{none, tileAt, slotAt, listed}
 use Rattle.cache.specs.Grid.{Covers, tileWidth, tileNth, whole}
 use Rattle.cache.specs.Slots.{base, state, again, entered, admitted, holding, Front, Ready}

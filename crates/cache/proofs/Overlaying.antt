@@ -1,5 +1,5 @@
 -- The entries of a cell, laid over those of a rectangle.
-use mathlib.Core.Path.{_≡_, refl, sym, _∙_, ap, subst}
+use mathlib.Core.Path.{_≡_, sym, _∙_, ap}
 use mathlib.Core.List.{List}
 use Prim.Native.Nat.{ℕ, _+_, _-_, _*_, _/_, _%_, _<_, _≤_, min, max}
 use native.Mathlib.Omega.{arith}
@@ -7,9 +7,7 @@ use native.Mathlib.Nat.{add-assoc, add-mul, mul-comm, one-mul, mul-le-mul-right}
 use lib.ListN.{getD}
 use Rattle.std.proofs.shelf.Bits.{mul-add-lt, div-mul-add, mod-mul-add}
 use Rattle.picture.specs.declared.rect.Rect.{Rect}
-use Rattle.picture.specs.Prepare.{area}
-use Rattle.picture.specs.Region.{Within}
-use Rattle.cache.specs.Boxes.{Copied, Others, spot, Beyond, Overlaid}
+use Rattle.cache.specs.Boxes.{Copied, Others, spot, Overlaid}
 
 pub shifted : (a j l i p : ℕ) → a * p + l + (j * p + i) ≡ (a + j) * p + (l + i)
 shifted a j l i p = omega (arith, add-mul a j p)

@@ -1,13 +1,13 @@
 -- A tile just used is the first one, and stays.
-use mathlib.Core.Path.{_≡_, refl, sym, _∙_, ap, subst}
-use mathlib.Core.Bool.{Bool, true, cond}
+use mathlib.Core.Path.{_≡_, refl, _∙_, ap, subst}
+use mathlib.Core.Bool.{true}
 use mathlib.Core.List.{List, _∷_}
 use Prim.Native.Nat.{ℕ, zero, suc, _≤_}
 use native.Mathlib.Omega.{arith}
 use lib.ListN.{take}
 use Rattle.std.proofs.shelf.Tests.{and-from, eq-eqb, cond-true, cond-both}
 use Rattle.cache.specs.declared.tile.Tile.{Tile}
-use Rattle.cache.specs.Machine.{State, Walk, going, ended, same, lists, without, visited}
+use Rattle.cache.specs.Machine.{Walk, going, ended, same, lists, without}
 use Rattle.cache.specs.Laws.{stateIn, UsedFirst, UsedStays}
 use Rattle.cache.proofs.Accounting.{lists-moved}
 

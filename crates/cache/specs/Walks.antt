@@ -12,12 +12,11 @@ use Rattle.picture.specs.Images.{Image, Model}
 use Rattle.picture.specs.Prepare.{coded}
 use Rattle.picture.specs.Region.{Within}
 use Rattle.cache.specs.declared.shape.TileShape.{TileShape}
-use Rattle.cache.specs.declared.tile.Tile.{Tile}
 use Rattle.cache.specs.declared.tiles.Tiles.{Tiles}
 use Rattle.cache.specs.Machine.{State, Walk, going, ended, walked}
 use Rattle.cache.specs.Grid.{whole, across, down, touched}
-use Rattle.cache.specs.Boxes.{spot, Beyond}
-use Rattle.cache.specs.Slots.{state, Front, Ready}
+use Rattle.cache.specs.Boxes.{spot}
+use Rattle.cache.specs.Slots.{state, Ready}
 
 -- a walk that goes on, or ended
 abbrev pub walkOf : Bool → State → Walk

@@ -1,6 +1,6 @@
 ghost use mathlib.Core.Path.{_≡_};
 ghost use mathlib.Core.Bool.{true};
-ghost use Prim.Native.Nat.{ℕ, _+_, _*_, _<_, _≤_};
+ghost use Prim.Native.Nat.{_+_, _*_, _<_, _≤_};
 ghost use Rattle.picture.specs.Prepare.{up};
 ghost use Rattle.cache.specs.Limits.{mostTiles, slotCount};
 ghost use Rattle.cache.specs.Machine.{missed, visited};
