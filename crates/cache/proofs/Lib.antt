@@ -1,0 +1,10 @@
+mod Moving
+mod Listing
+mod Pixels
+mod Keeping
+mod Fetching
+mod Overlaying
+mod Walking
+mod Accounting
+mod Preparing
+mod Recent

@@ -1,0 +1,11 @@
+pub mod Limits
+pub mod Shapes
+pub mod Machine
+pub mod Order
+pub mod Grid
+pub mod Boxes
+pub mod Slots
+pub mod Walks
+pub mod Caching
+pub mod Laws
+pub mod Samples
