@@ -1,0 +1,4 @@
+pub mod Summing
+pub mod Holes
+pub mod Asking
+pub mod Reading

@@ -1,0 +1,111 @@
+-- When a way to make a part makes what the formulas of its places ask for.
+use mathlib.Core.Path.{_≡_}
+use mathlib.Core.List.{List}
+use Prim.Native.Nat.{ℕ, _+_, _-_, _*_, _/_, _%_, _<_, _≤_, min}
+use lib.IntN.{ℤ, pos}
+use mathlib.Core.Bool.{true}
+use lib.ListN.{getD, length}
+use Rattle.std.specs.Options.{isSome}
+use Rattle.picture.specs.Prepare.{area}
+use Rattle.pixel.specs.Ops.{Ops}
+use Rattle.picture.specs.declared.rect.Rect.{Rect}
+use Rattle.picture.specs.declared.step.Step.{Step}
+use Rattle.picture.specs.Region.{Within}
+use Rattle.picture.specs.Steps.{Tap, Formula, black, white, copied, mixed, formula, kernel}
+use Rattle.layer.specs.declared.aim.Carry.{Carry}
+use Rattle.layer.specs.declared.aim.Lens.{Lens}
+use Rattle.layer.specs.declared.aim.Aim.{Aim}
+use Rattle.layer.specs.declared.aim.Aim.the-variants as aim
+use Rattle.layer.specs.Sums.{orBlack}
+
+-- where (x, y) stands in the reading order of a rectangle
+abbrev pub spot : Rect → ℕ → ℕ → ℕ
+spot r x y = (y - r .top) * r .width + (x - r .left)
+
+-- the region lies inside a picture of W columns and H rows
+pub record Inside (at : Rect) (W H : ℕ) : Type 0 where
+  pub across : at .left + at .width ≤ W
+  pub down : at .top + at .height ≤ H
+
+-- where a walk stands at (i, j) of the part
+abbrev pub walked : Carry → ℕ → ℕ → ℕ
+walked c i j = c .base + j * c .down - j * c .up + i * c .right - i * c .left
+
+-- the walk stands at (x, y)
+pub record Stops (c : Carry) (i j x y : ℕ) : Type 0 where
+  pub within : Within (c .at) x y
+  pub risen : j * c .up ≤ c .base + j * c .down
+  pub moved : i * c .left ≤ c .base + j * c .down - j * c .up + i * c .right
+  pub there : walked c i j ≡ spot (c .at) x y
+
+abbrev pub Carried : Carry → ℕ → ℕ → Formula → Type 0
+Carried c i j black = ⊥
+Carried c i j white = ⊥
+Carried c i j (copied x y) = Stops c i j x y
+Carried c i j (mixed n tap scale offset) = ⊥
+
+-- column q and row r of the window at (i, j), counted in the region and limited to it
+abbrev pub lensColumn : Lens → ℕ → ℕ → ℕ
+lensColumn l i q = min (i * l .across + q - l .before) (l .at .width - 1)
+
+abbrev pub lensRow : Lens → ℕ → ℕ → ℕ
+lensRow l j r = min (j * l .down + r - l .above) (l .at .height - 1)
+
+-- where the k-th place of the window stands in the region
+abbrev pub lensSpot : Lens → ℕ → ℕ → ℕ → ℕ
+lensSpot l i j k = lensRow l j (k / l .columns) * l .at .width + lensColumn l i (k % l .columns)
+
+-- the taps are those of the window, with these weights
+pub record Mixes (l : Lens) (w : ℕ → ℤ) (s : ℕ) (o : ℤ) (i j n : ℕ) (tap : ℕ → Tap) (scale : ℕ) (offset : ℤ) : Type 0 where
+  pub all : n ≡ l .columns * l .rows
+  pub scaled : scale ≡ s
+  pub moved : offset ≡ o
+  pub columns : (k : ℕ) → k < n → tap k .column ≡ l .at .left + lensColumn l i (k % l .columns)
+  pub rows : (k : ℕ) → k < n → tap k .row ≡ l .at .top + lensRow l j (k / l .columns)
+  pub weights : (k : ℕ) → k < n → tap k .weight ≡ w k
+
+abbrev pub Mixed : Lens → (ℕ → ℤ) → ℕ → ℤ → ℕ → ℕ → Formula → Type 0
+Mixed l w s o i j black = ⊥
+Mixed l w s o i j white = ⊥
+Mixed l w s o i j (copied x y) = ⊥
+Mixed l w s o i j (mixed n tap scale offset) = Mixes l w s o i j n tap scale offset
+
+-- a window has places, and few enough for a sum; that of a single place covers its region
+pub record Fair (l : Lens) (p : Rect) : Type 0 where
+  pub some : 1 ≤ l .columns
+  pub any : 1 ≤ l .rows
+  pub few : l .columns * l .rows ≤ 4096
+  pub small : (l .at .width ≤ 65535) × (l .columns ≤ 64) × (l .rows ≤ 64) × (l .across ≤ 64) × (l .down ≤ 64)
+  pub wide : p .width ≡ 1 → l .at .width + l .before ≤ l .columns
+  pub high : p .height ≡ 1 → l .at .height + l .above ≤ l .rows
+
+-- P of each place of the part: its place in the part, and its formula
+abbrev pub Each : Step → ℕ → ℕ → Rect → (ℕ → ℕ → Formula → Type 0) → Type 0
+Each s W H p P = (i j : ℕ) → i < p .width → j < p .height → P i j (formula s W H (p .left + i) (p .top + j))
+
+abbrev pub ones : ℕ → ℤ
+ones k = pos 1
+
+abbrev pub Aims : Aim → Step → ℕ → ℕ → Rect → Type 0
+Aims aim.Black s W H p = Each s W H p (λ i j φ. φ ≡ black)
+Aims aim.White s W H p = Each s W H p (λ i j φ. φ ≡ white)
+Aims (aim.Copy c) s W H p = Inside (c .at) W H × Each s W H p (Carried c) × (p .width ≡ 1 → c .at .width ≡ 1) × (p .height ≡ 1 → c .at .height ≡ 1)
+Aims (aim.Mean l) s W H p = Inside (l .at) W H × Each s W H p (Mixed l ones (l .columns * l .rows) (pos 0)) × Fair l p
+Aims (aim.Masked l m) s W H p =
+    Inside (l .at) W H × Each s W H p (Mixed l (λ k. getD (kernel m .coefficients) k (pos 0)) (kernel m .scale) (kernel m .offset)) × Fair l p × (l .columns * l .rows ≡ 9)
+-- a single place lies across no edge
+Aims aim.Edge s W H p = 3 ≤ p .width + p .height
+
+module _ {K S : Type 0} (o : Ops K S) where
+  -- the pixel of the k-th place of a window, by the codes of the region
+  abbrev pub lensPixel : List ℕ → Lens → ℕ → ℕ → ℕ → K
+  lensPixel codes l i j k = orBlack (o .black) (o .decode (getD codes (lensSpot l i j k) 0))
+
+  -- the codes of the region are those of pixels
+  pub record Readable (codes : List ℕ) (l : Lens) (i j : ℕ) : Type 0 where
+    pub some : 1 ≤ l .columns
+    pub few : l .columns * l .rows ≤ 4096
+    pub small : (l .columns ≤ 64) × (l .rows ≤ 64) × (l .across ≤ 64) × (l .down ≤ 64)
+    pub near : (i ≤ 65535) × (j ≤ 65535)
+    pub room : area (l .at) ≤ length codes
+    pub pixels : (k : ℕ) → k < area (l .at) → isSome (o .decode (getD codes k 0)) ≡ true

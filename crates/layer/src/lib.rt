@@ -1,0 +1,7 @@
+//! One step laid over any picture.
+
+mod aim;
+mod ask;
+mod masks;
+mod mix;
+mod weights;
