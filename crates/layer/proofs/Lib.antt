@@ -2,3 +2,4 @@ pub mod Summing
 pub mod Holes
 pub mod Asking
 pub mod Reading
+pub mod Spreading

@@ -4,4 +4,6 @@ mod aim;
 mod ask;
 mod masks;
 mod mix;
+mod spread;
+mod spreads;
 mod weights;
