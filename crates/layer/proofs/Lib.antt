@@ -3,3 +3,4 @@ pub mod Holes
 pub mod Asking
 pub mod Reading
 pub mod Spreading
+pub mod Aiming

@@ -9,6 +9,10 @@ use Rattle.std.specs.Options.{isSome}
 use Rattle.picture.specs.Prepare.{area}
 use Rattle.pixel.specs.Ops.{Ops}
 use Rattle.picture.specs.declared.rect.Rect.{Rect}
+use Rattle.picture.specs.declared.step.Axis.{Axis}
+use Rattle.picture.specs.declared.step.Axis.the-variants.{Horizontal, Vertical}
+use Rattle.picture.specs.declared.step.Turn.{Turn}
+use Rattle.picture.specs.declared.step.Turn.the-variants.{D90, D270}
 use Rattle.picture.specs.declared.step.Step.{Step}
 use Rattle.picture.specs.Region.{Within}
 use Rattle.picture.specs.Steps.{Tap, Formula, black, white, copied, mixed, formula, kernel}
@@ -75,9 +79,37 @@ pub record Fair (l : Lens) (p : Rect) : Type 0 where
   pub some : 1 ≤ l .columns
   pub any : 1 ≤ l .rows
   pub few : l .columns * l .rows ≤ 4096
-  pub small : (l .at .width ≤ 65535) × (l .columns ≤ 64) × (l .rows ≤ 64) × (l .across ≤ 64) × (l .down ≤ 64)
+  pub small : (l .columns ≤ 64) × (l .rows ≤ 64) × (l .across ≤ 64) × (l .down ≤ 64)
   pub wide : p .width ≡ 1 → l .at .width + l .before ≤ l .columns
   pub high : p .height ≡ 1 → l .at .height + l .above ≤ l .rows
+
+-- each place (u, v) of the part shows column X u v and row Y u v below
+pub record Copies (c : Carry) (W H : ℕ) (p : Rect) (X Y : ℕ → ℕ → ℕ) : Type 0 where
+  pub inside : Inside (c .at) W H
+  pub each : (i j : ℕ) → i < p .width → j < p .height → Stops c i j (X (p .left + i) (p .top + j)) (Y (p .left + i) (p .top + j))
+  pub wide : p .width ≡ 1 → p .height ≡ 1 → area (c .at) ≡ 1
+
+abbrev pub Flips : Axis → Carry → ℕ → ℕ → Rect → Type 0
+Flips Horizontal c W H p = Copies c W H p (λ u v. W - 1 - u) (λ u v. v)
+Flips Vertical c W H p = Copies c W H p (λ u v. u) (λ u v. H - 1 - v)
+
+abbrev pub Turns : Turn → Carry → ℕ → ℕ → Rect → Type 0
+Turns D90 c W H p = Copies c W H p (λ u v. v) (λ u v. H - 1 - u)
+Turns D270 c W H p = Copies c W H p (λ u v. W - 1 - v) (λ u v. u)
+
+-- each place of the part has its window
+pub record Frames (l : Lens) (W H : ℕ) (p : Rect) (X Y : ℕ → ℕ → ℕ) : Type 0 where
+  pub inside : Inside (l .at) W H
+  pub columns : (i q : ℕ) → i < p .width → q < l .columns → X (p .left + i) q ≡ l .at .left + lensColumn l i q
+  pub rows : (j r : ℕ) → j < p .height → r < l .rows → Y (p .top + j) r ≡ l .at .top + lensRow l j r
+  pub fair : Fair l p
+
+abbrev pub Boxes : Lens → ℕ → ℕ → Rect → Type 0
+Boxes l f g p =
+    Frames l (p .left * f + p .width * f) (p .top * g + p .height * g) p (λ u q. u * f + q) (λ v r. v * g + r) × (l .columns ≡ f) × (l .rows ≡ g)
+
+abbrev pub Windows : Lens → ℕ → ℕ → Rect → Type 0
+Windows l W H p = Frames l W H p (λ u q. min (u + q - 1) (W - 1)) (λ v r. min (v + r - 1) (H - 1)) × (l .columns ≡ 3) × (l .rows ≡ 3)
 
 -- P of each place of the part: its place in the part, and its formula
 abbrev pub Each : Step → ℕ → ℕ → Rect → (ℕ → ℕ → Formula → Type 0) → Type 0
@@ -89,7 +121,7 @@ ones k = pos 1
 abbrev pub Aims : Aim → Step → ℕ → ℕ → Rect → Type 0
 Aims aim.Black s W H p = Each s W H p (λ i j φ. φ ≡ black)
 Aims aim.White s W H p = Each s W H p (λ i j φ. φ ≡ white)
-Aims (aim.Copy c) s W H p = Inside (c .at) W H × Each s W H p (Carried c) × (p .width ≡ 1 → c .at .width ≡ 1) × (p .height ≡ 1 → c .at .height ≡ 1)
+Aims (aim.Copy c) s W H p = Inside (c .at) W H × Each s W H p (Carried c) × (p .width ≡ 1 → p .height ≡ 1 → area (c .at) ≡ 1)
 Aims (aim.Mean l) s W H p = Inside (l .at) W H × Each s W H p (Mixed l ones (l .columns * l .rows) (pos 0)) × Fair l p
 Aims (aim.Masked l m) s W H p =
     Inside (l .at) W H × Each s W H p (Mixed l (λ k. getD (kernel m .coefficients) k (pos 0)) (kernel m .scale) (kernel m .offset)) × Fair l p × (l .columns * l .rows ≡ 9)

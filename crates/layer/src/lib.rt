@@ -1,6 +1,7 @@
 //! One step laid over any picture.
 
 mod aim;
+mod aims;
 mod ask;
 mod masks;
 mod mix;
