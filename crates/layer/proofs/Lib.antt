@@ -4,3 +4,5 @@ pub mod Asking
 pub mod Reading
 pub mod Spreading
 pub mod Aiming
+pub mod Embedding
+pub mod Stepping

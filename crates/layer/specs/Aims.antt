@@ -13,9 +13,9 @@ use Rattle.picture.specs.declared.step.Axis.{Axis}
 use Rattle.picture.specs.declared.step.Axis.the-variants.{Horizontal, Vertical}
 use Rattle.picture.specs.declared.step.Turn.{Turn}
 use Rattle.picture.specs.declared.step.Turn.the-variants.{D90, D270}
-use Rattle.picture.specs.declared.step.Step.{Step}
+use Rattle.picture.specs.declared.step.Mask.{Mask}
 use Rattle.picture.specs.Region.{Within}
-use Rattle.picture.specs.Steps.{Tap, Formula, black, white, copied, mixed, formula, kernel}
+use Rattle.picture.specs.Steps.{Tap, Formula, black, white, copied, mixed, kernel}
 use Rattle.layer.specs.declared.aim.Carry.{Carry}
 use Rattle.layer.specs.declared.aim.Lens.{Lens}
 use Rattle.layer.specs.declared.aim.Aim.{Aim}
@@ -111,22 +111,36 @@ Boxes l f g p =
 abbrev pub Windows : Lens → ℕ → ℕ → Rect → Type 0
 Windows l W H p = Frames l W H p (λ u q. min (u + q - 1) (W - 1)) (λ v r. min (v + r - 1) (H - 1)) × (l .columns ≡ 3) × (l .rows ≡ 3)
 
--- P of each place of the part: its place in the part, and its formula
-abbrev pub Each : Step → ℕ → ℕ → Rect → (ℕ → ℕ → Formula → Type 0) → Type 0
-Each s W H p P = (i j : ℕ) → i < p .width → j < p .height → P i j (formula s W H (p .left + i) (p .top + j))
+-- P of each place of the part: its column and row in the part, and its formula
+abbrev pub Each : (ℕ → ℕ → Formula) → Rect → (ℕ → ℕ → Formula → Type 0) → Type 0
+Each φ p P = (i j : ℕ) → i < p .width → j < p .height → P i j (φ (p .left + i) (p .top + j))
+
+-- a black or white ground, which needs nothing of below
+abbrev pub Ground : Formula → Type 0
+Ground black = Unit {0}
+Ground white = Unit {0}
+Ground (copied x y) = ⊥
+Ground (mixed n tap scale offset) = ⊥
+
+-- nothing of below is needed
+abbrev pub Needless : (ℕ → ℕ → Formula) → Rect → Type 0
+Needless φ p = Each φ p (λ i j. Ground)
 
 abbrev pub ones : ℕ → ℤ
 ones k = pos 1
 
-abbrev pub Aims : Aim → Step → ℕ → ℕ → Rect → Type 0
-Aims aim.Black s W H p = Each s W H p (λ i j φ. φ ≡ black)
-Aims aim.White s W H p = Each s W H p (λ i j φ. φ ≡ white)
-Aims (aim.Copy c) s W H p = Inside (c .at) W H × Each s W H p (Carried c) × (p .width ≡ 1 → p .height ≡ 1 → area (c .at) ≡ 1)
-Aims (aim.Mean l) s W H p = Inside (l .at) W H × Each s W H p (Mixed l ones (l .columns * l .rows) (pos 0)) × Fair l p
-Aims (aim.Masked l m) s W H p =
-    Inside (l .at) W H × Each s W H p (Mixed l (λ k. getD (kernel m .coefficients) k (pos 0)) (kernel m .scale) (kernel m .offset)) × Fair l p × (l .columns * l .rows ≡ 9)
--- a single place lies across no edge
-Aims aim.Edge s W H p = 3 ≤ p .width + p .height
+abbrev pub weightsOf : Mask → ℕ → ℤ
+weightsOf m k = getD (kernel m .coefficients) k (pos 0)
+
+-- each place of the part is made so, over a picture of W columns and H rows
+abbrev pub Aims : Aim → (ℕ → ℕ → Formula) → ℕ → ℕ → Rect → Type 0
+Aims aim.Black φ W H p = Each φ p (λ i j f. f ≡ black)
+Aims aim.White φ W H p = Each φ p (λ i j f. f ≡ white)
+Aims (aim.Copy c) φ W H p = Inside (c .at) W H × Each φ p (Carried c) × (p .width ≡ 1 → p .height ≡ 1 → area (c .at) ≡ 1)
+Aims (aim.Mean l) φ W H p = Inside (l .at) W H × Each φ p (Mixed l ones (l .columns * l .rows) (pos 0)) × Fair l p
+Aims (aim.Masked l m) φ W H p = Inside (l .at) W H × Each φ p (Mixed l (weightsOf m) (kernel m .scale) (kernel m .offset)) × Fair l p
+-- a single place lies across no edge, and a part that does needs something of below
+Aims aim.Edge φ W H p = (3 ≤ p .width + p .height) × (Needless φ p → ⊥)
 
 module _ {K S : Type 0} (o : Ops K S) where
   -- the pixel of the k-th place of a window, by the codes of the region

@@ -1,6 +1,6 @@
 -- How places of one side of a layer fall on the same side below.
 use mathlib.Core.Path.{_≡_}
-use mathlib.Core.Bool.{true}
+use mathlib.Core.Bool.{Bool, true, false, not}
 use Prim.Native.Nat.{ℕ, _+_, _-_, _*_, _<_, _≤_, min}
 use lib.IntN.{ℤ, pos, _-ℤ_}
 use Rattle.std.specs.declared.option.Option.{Option}
@@ -36,3 +36,8 @@ pub record Reaches (r : Reach) (u n m : ℕ) : Type 0 where
   pub within : r .first + r .count ≤ m
   pub whole : r .count + r .before ≤ n + 2
   pub near : (i q : ℕ) → i < n → q < 3 → min (u + i + q - 1) (m - 1) ≡ r .first + min (i + q - r .before) (r .count - 1)
+
+-- all of them lie beside the side below
+abbrev pub beside : Option Spread → Bool
+beside None = false
+beside (Some s) = not (s .inside)

@@ -1,11 +1,11 @@
 ghost use mathlib.Core.Path.{_≡_};
 ghost use mathlib.Core.Bool.{true};
 ghost use Prim.Native.Nat.{ℕ, _+_, _-_, _*_, _≤_, _<_};
-ghost use Rattle.std.specs.declared.option.Option.the-variants.{Some};
-ghost use Rattle.picture.specs.declared.step.Step.the-variants.{Embed, Shrink};
+ghost use lib.IntN.{natAbs, pos, _-ℤ_};
 ghost use Rattle.picture.specs.Limits.{largest};
-ghost use Rattle.picture.specs.Steps.{allowed, fitting, heightOf, widthOf};
+ghost use Rattle.picture.specs.Steps.{allowed, embedded, fitting, formula, heightOf, widthOf};
 ghost use Rattle.layer.specs.Aims.{Aims, Boxes, Copies, Flips, Turns, Windows};
+ghost use Rattle.layer.specs.Spreads.{beside};
 use crate::aim::Aim;
 use crate::aim::Carry;
 use crate::aim::Lens;
@@ -155,5 +155,63 @@ fn masked(wide: u32, high: u32, part: Rect) -> Lens
         down: 1,
         before: x.before,
         above: y.before,
+    }
+}
+
+/// Whether all the places lie beside the picture below.
+fn is_beside(spread: Option<Spread>) -> bool
+    ensures { λ r. ⌜ r ≡ beside spread ⌝ }
+{
+    match spread {
+        Some(spread) => !spread.inside,
+        None => false,
+    }
+}
+
+/// The part lies over the picture that an embedding holds, beside it, or across its edge.
+fn placed(x: i32, y: i32, ground: Ground, size: Size, part: Rect) -> Aim
+    requires limits { ⌜ natAbs x ≤ largest ⌝ ∗ ⌜ natAbs y ≤ largest ⌝ }
+    ensures { λ r. ⌜ Aims r (λ u v. embedded ground (size .width) (size .height) (pos u -ℤ x) (pos v -ℤ y)) (size .width) (size .height) part ⌝ }
+{
+    let across = spread(part.left, x, part.width, size.width);
+    let down = spread(part.top, y, part.height, size.height);
+    if is_beside(across) || is_beside(down) {
+        match ground {
+            Ground::Black => return Aim::Black,
+            Ground::White => return Aim::White,
+            Ground::Copy => {}
+        }
+    }
+    match (across, down) {
+        (None, _) => Aim::Edge,
+        (_, None) => Aim::Edge,
+        (Some(a), Some(b)) => Aim::Copy(Carry {
+            at: rect(a.first, b.first, a.count, b.count),
+            base: 0,
+            right: a.step as usize,
+            left: 0,
+            down: b.step as usize * a.count as usize,
+            up: 0,
+        }),
+    }
+}
+
+/// What of the picture below makes a part of a layer: the formulas of the steps.
+pub(crate) fn aim(step: Step, size: Size, part: Rect) -> Aim
+    requires allowed { ⌜ allowed step ≡ true ⌝ }
+    requires fits { ⌜ fitting step (size .width) (size .height) ≡ true ⌝ }
+    requires across { ⌜ part .left + part .width ≤ widthOf step (size .width) (size .height) ⌝ }
+    requires down { ⌜ part .top + part .height ≤ heightOf step (size .width) (size .height) ⌝ }
+    ensures { λ r. ⌜ Aims r (formula step (size .width) (size .height)) (size .width) (size .height) part ⌝ }
+{
+    let (wide, high) = (size.width, size.height);
+    match step {
+        Step::Same => Aim::Copy(straight(0, 0, part)),
+        Step::Crop { left, top, .. } => Aim::Copy(straight(left, top, part)),
+        Step::Embed { x, y, ground, .. } => placed(x, y, or_black(ground), size, part),
+        Step::Flip(axis) => Aim::Copy(flipped(axis, wide, high, part)),
+        Step::Rot(turn) => Aim::Copy(turned(turn, wide, high, part)),
+        Step::Shrink { across, down } => Aim::Mean(boxes(across, down, part)),
+        Step::Conv(mask) => Aim::Masked(masked(wide, high, part), mask),
     }
 }
