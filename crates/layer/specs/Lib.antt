@@ -1,3 +1,4 @@
 pub mod Sums
 pub mod Spreads
 pub mod Aims
+pub mod Layers

@@ -3,8 +3,12 @@
 mod aim;
 mod aims;
 mod ask;
+mod layer;
+mod making;
 mod masks;
 mod mix;
 mod spread;
 mod spreads;
 mod weights;
+
+pub use layer::Layer;
