@@ -6,3 +6,4 @@ pub mod Spreading
 pub mod Aiming
 pub mod Embedding
 pub mod Stepping
+pub mod Mixing
