@@ -11,7 +11,7 @@ use Rattle.picture.specs.Prepare.{area}
 use Rattle.picture.specs.Region.{Within}
 use Rattle.layer.specs.declared.aim.Carry.{Carry}
 use Rattle.layer.specs.declared.aim.Lens.{Lens}
-use Rattle.layer.specs.Aims.{Copies, Fair, Flips, Frames, Inside, Stops, Turns, lensColumn, lensRow, spot, walked}
+use Rattle.layer.specs.Aims.{Copies, Fair, Few, Flips, Frames, Inside, Stops, Turns, lensColumn, lensRow, spot, walked}
 
 -- a walk that stands b rows down and a columns right in its region
 stops : (c : Carry) (i j x y a b : ℕ) → x ≡ c .at .left + a → y ≡ c .at .top + b → a < c .at .width → b < c .at .height → j * c .up ≤ c .base + j * c .down
@@ -134,12 +134,15 @@ frames-boxes l f g p f₁ f₂ g₁ g₂ el et ew eh c₀ c₁ c₂ c₃ c₄ c�
   rows = λ j r lj lr.
     let m : j * l .down ≡ j * g = ap (λ z. j * z) c₃ in
     omega (arith, box-column (p .top) j (p .height) g r (l .at .height) lj (omega arith) eh);
-  fair = record {
+  fair = let few : Few l = record {
     some = omega arith;
-    any = omega arith;
     few = omega (arith, ap (λ z. z * l .rows) c₀, ap (λ z. f * z) c₁, mul-le f g 64 64 f₂ g₂);
     small = (omega arith, omega arith, omega arith, omega arith);
-    wide = λ e. let m : p .width * f ≡ 1 * f = ap (λ z. z * f) e in omega arith;
-    high = λ e. let m : p .height * g ≡ 1 * g = ap (λ z. z * g) e in omega arith;
+  } in record {
+    few = few;
+    lone = λ a b.
+      let m : p .width * f ≡ 1 * f = ap (λ z. z * f) a in
+      let n : p .height * g ≡ 1 * g = ap (λ z. z * g) b in
+      record { few = few; wide = omega arith; high = omega arith };
   };
 }

@@ -25,8 +25,10 @@ use Rattle.picture.specs.Places.{Place, pixel, hole, faultOf, firstFault}
 use Rattle.picture.specs.Images.{Image}
 use Rattle.picture.specs.Compose.{pixelOr}
 use Rattle.picture.specs.Prepare.{answer, area, codeAt, coded, filled, firstIn, holed, nth, orFault, put, Shown}
+use Rattle.picture.proofs.Faults.{fault-of-err}
 use Rattle.picture.proofs.Serving.{answer-is, filled-is}
 use Rattle.layer.specs.Aims.{Inside}
+use Rattle.layer.specs.Layers.{located}
 use Rattle.layer.specs.Sums.{orBlack}
 use Rattle.layer.proofs.Holes.{none-each, pixel-is}
 
@@ -143,3 +145,23 @@ module _ {K S : Type 0} (o : Ops K S) where
 
   pub reads-pixel : ((p : K) → o .decode (o .code p) ≡ Some p) → (p : Place K) (c : ℕ) → coded o p ≡ Some c → orBlack (o .black) (o .decode c) ≡ pixelOr (o .black) p
   reads-pixel d p c e = ap (orBlack (o .black)) (reads-back d p c e)
+
+  coded-located : (p : Place K) (c : ℕ) → coded o p ≡ Some c → Ok c ≡ located o p
+  coded-located (pixel k) c e = let q : c ≡ o .code k = cc in ap Ok q
+  coded-located (hole f) c e = cc
+
+  -- a region of one place
+  pub single-shown : (i : Image K) (r : Rect) (codes : List ℕ) (k : ℕ) → area r ≡ 1 → k < area r → Shown o (nth i r) (area r) codes → Ok (getD codes 0 0) ≡ located o (nth i r k)
+  single-shown i r codes k one h s =
+      let e : 0 ≡ k = omega arith in
+      coded-located (nth i r 0) (getD codes 0 0) (s 0 (omega arith)) ∙ ap (λ z. located o (nth i r z)) e
+
+  pub single-hole : (i : Image K) (r : Rect) (f : Fault) (k : ℕ) → area r ≡ 1 → k < area r → Err f ≡ firstIn (nth i r) (area r) → Err f ≡ located o (nth i r k)
+  single-hole i r f k one h e =
+      let z : 0 ≡ k = omega arith in
+      let q : firstFault (nth i r) 1 ≡ Some f = ap (firstFault (nth i r)) (sym one) ∙ fault-of-err (firstFault (nth i r) (area r)) f e in
+      fault-located (nth i r 0) f q ∙ ap (λ m. located o (nth i r m)) z
+    where
+      fault-located : (p : Place K) (f : Fault) → faultOf p ≡ Some f → Err f ≡ located o p
+      fault-located (pixel k) f e = cc
+      fault-located (hole g) f e = let q : f ≡ g = cc in ap Err q

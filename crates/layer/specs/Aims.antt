@@ -74,14 +74,21 @@ Mixed l w s o i j white = ⊥
 Mixed l w s o i j (copied x y) = ⊥
 Mixed l w s o i j (mixed n tap scale offset) = Mixes l w s o i j n tap scale offset
 
--- a window has places, and few enough for a sum; that of a single place covers its region
-pub record Fair (l : Lens) (p : Rect) : Type 0 where
+-- a window has places, and few enough for a sum
+pub record Few (l : Lens) : Type 0 where
   pub some : 1 ≤ l .columns
-  pub any : 1 ≤ l .rows
   pub few : l .columns * l .rows ≤ 4096
   pub small : (l .columns ≤ 64) × (l .rows ≤ 64) × (l .across ≤ 64) × (l .down ≤ 64)
-  pub wide : p .width ≡ 1 → l .at .width + l .before ≤ l .columns
-  pub high : p .height ≡ 1 → l .at .height + l .above ≤ l .rows
+
+-- the first window covers the region
+pub record Lone (l : Lens) : Type 0 where
+  pub few : Few l
+  pub wide : l .at .width + l .before ≤ l .columns
+  pub high : l .at .height + l .above ≤ l .rows
+
+pub record Fair (l : Lens) (p : Rect) : Type 0 where
+  pub few : Few l
+  pub lone : p .width ≡ 1 → p .height ≡ 1 → Lone l
 
 -- each place (u, v) of the part shows column X u v and row Y u v below
 pub record Copies (c : Carry) (W H : ℕ) (p : Rect) (X Y : ℕ → ℕ → ℕ) : Type 0 where
@@ -149,9 +156,7 @@ module _ {K S : Type 0} (o : Ops K S) where
 
   -- the codes of the region are those of pixels
   pub record Readable (codes : List ℕ) (l : Lens) (i j : ℕ) : Type 0 where
-    pub some : 1 ≤ l .columns
-    pub few : l .columns * l .rows ≤ 4096
-    pub small : (l .columns ≤ 64) × (l .rows ≤ 64) × (l .across ≤ 64) × (l .down ≤ 64)
+    pub few : Few l
     pub near : (i ≤ 65535) × (j ≤ 65535)
     pub room : area (l .at) ≤ length codes
     pub pixels : (k : ℕ) → k < area (l .at) → isSome (o .decode (getD codes k 0)) ≡ true

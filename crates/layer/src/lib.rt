@@ -3,10 +3,12 @@
 mod aim;
 mod aims;
 mod ask;
+mod blend;
 mod layer;
 mod making;
 mod masks;
 mod mix;
+mod places;
 mod spread;
 mod spreads;
 mod weights;

@@ -25,7 +25,7 @@ add-column-sum-requires g c κs =
       room = (c .loop-q .q * l .rows,
           subst (λ s. g .K·Kind .held s (c .loop-q .q * l .rows)) (sym (c .loop-q .inv))
               (held-columns o (g .K·Kind .held) (g .K·Kind·met .grown) p w (c .pre .light) (g .K·Kind·met .begun) (l .columns) (l .rows) (c .loop-q .q)),
-          row-end (c .loop-q .q) (l .rows) (l .columns) 4096 (c .loop-q-test .taken) (omega (arith, mul-comm (l .rows) (l .columns), c .pre .can .few)));
+          row-end (c .loop-q .q) (l .rows) (l .columns) 4096 (c .loop-q-test .taken) (omega (arith, mul-comm (l .rows) (l .columns), c .pre .can .few .few)));
     }
 
 pub finish-requires : need.finish-requires
@@ -39,7 +39,7 @@ finish-requires g c κs =
       room = (c .loop-q .q * l .rows,
           subst (λ s. g .K·Kind .held s (c .loop-q .q * l .rows)) (sym (c .loop-q .inv))
               (held-columns o (g .K·Kind .held) (g .K·Kind·met .grown) p w (c .pre .light) (g .K·Kind·met .begun) (l .columns) (l .rows) (c .loop-q .q)),
-          omega (arith, ap (λ z. z * l .rows) q, c .pre .can .few));
+          omega (arith, ap (λ z. z * l .rows) q, c .pre .can .few .few));
       scale = c .pre .scale;
     }
 
