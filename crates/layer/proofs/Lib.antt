@@ -7,3 +7,4 @@ pub mod Aiming
 pub mod Embedding
 pub mod Stepping
 pub mod Mixing
+pub mod Placing
