@@ -8,3 +8,4 @@ pub mod Embedding
 pub mod Stepping
 pub mod Mixing
 pub mod Placing
+pub mod Rowing

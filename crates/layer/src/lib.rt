@@ -9,8 +9,11 @@ mod making;
 mod masks;
 mod mix;
 mod places;
+mod showing;
 mod spread;
 mod spreads;
 mod weights;
 
 pub use layer::Layer;
+pub use showing::LayerPicture;
+pub use showing::LayerRows;
