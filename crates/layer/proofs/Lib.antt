@@ -9,3 +9,4 @@ pub mod Stepping
 pub mod Mixing
 pub mod Placing
 pub mod Rowing
+pub mod Bounding

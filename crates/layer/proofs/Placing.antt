@@ -1,5 +1,6 @@
 -- A step that stands over a picture whose size the layer keeps.
 use mathlib.Core.Path.{_≡_, refl, sym, _∙_, ap, subst}
+use mathlib.Core.Bool.{true}
 use mathlib.Core.List.{List, [], _∷_}
 use Prim.Native.Nat.{ℕ, zero, suc, _+_, _-_, _*_, _<_, _≤_}
 use native.Mathlib.Nat.{add-suc, add-zero}
@@ -16,7 +17,7 @@ use Rattle.picture.specs.declared.step.Step.{Step}
 use Rattle.picture.specs.Compose.{layered}
 use Rattle.picture.specs.Images.{Image, Model}
 use Rattle.picture.specs.Prepare.{up}
-use Rattle.picture.specs.Steps.{Formula, black, white, copied, mixed, formula, kernel, widthOf, heightOf}
+use Rattle.picture.specs.Steps.{Formula, black, white, copied, mixed, fitting, formula, kernel, widthOf, heightOf}
 use Rattle.layer.specs.declared.aim.Lens.{Lens}
 use Rattle.layer.specs.declared.layer.Layer.{Layer}
 use Rattle.layer.specs.Aims.{Inside, Lone, Mixed}
@@ -34,6 +35,9 @@ module _ {K : Type 0} (b : Image K) (s : Step) (z : Size) where
 
   pub stood-high : Stands b s z → heightOf s (b .width) (b .height) ≡ heightOf s (z .width) (z .height)
   stood-high h = sym (ap (λ k. heightOf s k (z .height)) (h .width) ∙ ap (λ k. heightOf s (b .width) k) (h .height))
+
+  pub stood-fits : Stands b s z → fitting s (b .width) (b .height) ≡ true
+  stood-fits h = ap (λ k. fitting s k (b .height)) (sym (h .width)) ∙ ap (λ k. fitting s (z .width) k) (sym (h .height)) ∙ h .fits
 
   pub stood-still : (a : Image K) → a ≡ b → Stands b s z → Stands a s z
   stood-still a e h = subst (λ (x : Image K). Stands x s z) (sym e) h

@@ -30,7 +30,7 @@ wider at W H W′ H′ a b h = record { across = omega (arith, h .across); down 
 
 pub aims-same : (c : Carry) (W H : ℕ) (p : Rect) → Copies c (p .left + 0 + p .width) (p .top + 0 + p .height) p (λ u v. u + 0) (λ u v. v + 0) → p .left + p .width ≤ W → p .top + p .height ≤ H
     → Aims (aim.Copy c) (formula Same W H) W H p
-aims-same c W H p k x y = (wider (c .at) _ _ W H (omega arith) (omega arith) (k .inside), λ i j li lj. rw (add-zero, add-zero) at (k .each i j li lj), k .wide)
+aims-same c W H p k x y = (wider (c .at) _ _ W H (omega arith) (omega arith) (k .inside), λ i j li lj. simp add-zero at (k .each i j li lj), k .wide)
 
 pub aims-crop : (c : Carry) (l t w h W H : ℕ) (p : Rect) → Copies c (p .left + l + p .width) (p .top + t + p .height) p (λ u v. u + l) (λ u v. v + t) → p .left + l + p .width ≤ W → p .top + t + p .height ≤ H
     → Aims (aim.Copy c) (formula (Crop l t w h) W H) W H p
