@@ -42,8 +42,8 @@ as-turns a b c W H p e f = subst (λ (z : Turn). Turns z c W H p) (sym e) f
 pub copies-spread : (c : Carry) (W H : ℕ) (p : Rect) (X Y : ℕ → ℕ → ℕ) (sx sy : ℕ) → Inside (c .at) W H → c .base ≡ 0 → c .right ≡ sx → c .left ≡ 0 → c .down ≡ sy * c .at .width → c .up ≡ 0
     → (p .width ≡ 1 → c .at .width ≡ 1) → (p .height ≡ 1 → c .at .height ≡ 1)
     → ((i j : ℕ) → i < p .width → j < p .height → (X (p .left + i) (p .top + j) ≡ c .at .left + i * sx) × (i * sx < c .at .width) × (Y (p .left + i) (p .top + j) ≡ c .at .top + j * sy) × (j * sy < c .at .height))
-    → Copies c W H p X Y
-copies-spread c W H p X Y sx sy at e₀ e₁ e₂ e₃ e₄ w h each = record {
+    → sx ≤ 1 → sy ≤ 1 → Copies c W H p X Y
+copies-spread c W H p X Y sx sy at e₀ e₁ e₂ e₃ e₄ w h each lx ly = record {
   inside = at;
   each = λ i j li lj.
     let f = each i j li lj in
@@ -53,6 +53,7 @@ copies-spread c W H p X Y sx sy at e₀ e₁ e₂ e₃ e₄ w h each = record {
     let m₄ : j * c .up ≡ 0 = ap (λ z. j * z) e₄ ∙ omega arith in
     stops c i j _ _ (i * sx) (j * sy) (f .0) (f .2) (f .1) (f .3) (omega arith) (omega arith) (omega arith);
   wide = λ a b. one-place c (w a) (h b);
+  steady = record { base = omega arith; right = omega arith; left = omega arith; down = omega (arith, mul-le-mul-right (c .at .width) ly, one-mul (c .at .width), c .at .across); up = omega arith };
 }
 
 -- mirrored
@@ -67,6 +68,7 @@ copies-mirrored c W H p x y l t w h e₀ e₁ e₂ e₃ e₄ = record {
     let m₄ : j * c .up ≡ 0 = ap (λ z. j * z) e₄ ∙ omega arith in
     stops c i j _ _ (p .width - 1 - i) j (omega arith) (omega arith) (omega arith) (omega arith) (omega arith) (omega arith) (omega arith);
   wide = λ a b. one-place c (w ∙ a) (h ∙ b);
+  steady = record { base = omega (arith, p .across, p .down); right = omega (arith, p .across, p .down); left = omega (arith, p .across, p .down); down = omega (arith, p .across, p .down); up = omega (arith, p .across, p .down) };
 }
 
 -- upside down
@@ -84,6 +86,7 @@ copies-upturned c W H p x y l t w h e₀ e₁ e₂ e₃ e₄ = record {
     let m₆ : j * p .width ≤ (p .height - 1) * p .width = mul-le-mul-right (p .width) le in
     stops c i j _ _ i (p .height - 1 - j) (omega arith) (omega arith) (omega arith) (omega arith) (omega arith) (omega arith) (omega arith);
   wide = λ a b. one-place c (w ∙ a) (h ∙ b);
+  steady = record { base = omega (arith, mul-le (p .height - 1) (p .width) 65535 65535 (omega (arith, p .down)) (omega (arith, p .across))); right = omega (arith, p .across, p .down); left = omega (arith, p .across, p .down); down = omega (arith, p .across, p .down); up = omega (arith, p .across, p .down) };
 }
 
 -- a quarter to the right
@@ -101,6 +104,7 @@ copies-quarter c W H p x y l t w h e₀ e₁ e₂ e₃ e₄ = record {
     let m₆ : i * p .height ≤ (p .width - 1) * p .height = mul-le-mul-right (p .height) le in
     stops c i j _ _ j (p .width - 1 - i) (omega arith) (omega arith) (omega arith) (omega arith) (omega arith) (omega arith) (omega arith);
   wide = λ a b. one-place c (w ∙ b) (h ∙ a);
+  steady = record { base = omega (arith, mul-le (p .width - 1) (p .height) 65535 65535 (omega (arith, p .across)) (omega (arith, p .down))); right = omega (arith, p .across, p .down); left = omega (arith, p .across, p .down); down = omega (arith, p .across, p .down); up = omega (arith, p .across, p .down) };
 }
 
 -- a quarter to the left
@@ -115,6 +119,7 @@ copies-back c W H p x y l t w h e₀ e₁ e₂ e₃ e₄ = record {
     let m₄ : j * c .up ≡ j = ap (λ z. j * z) e₄ ∙ omega arith in
     stops c i j _ _ (p .height - 1 - j) i (omega arith) (omega arith) (omega arith) (omega arith) (omega arith) (omega arith) (omega arith);
   wide = λ a b. one-place c (w ∙ b) (h ∙ a);
+  steady = record { base = omega (arith, p .across, p .down); right = omega (arith, p .across, p .down); left = omega (arith, p .across, p .down); down = omega (arith, p .across, p .down); up = omega (arith, p .across, p .down) };
 }
 
 -- a place of the i-th of some boxes of f places

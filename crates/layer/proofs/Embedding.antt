@@ -102,8 +102,8 @@ module _ (x y : ℤ) (W H : ℕ) (p : Rect) where
   is-copy a b c g sh ha hb el et ew eh e₀ e₁ e₂ e₃ e₄ =
       let k = copies-spread c W H p (λ u v. nearest (pos u -ℤ x) W) (λ u v. nearest (pos v -ℤ y) H) (a .step) (b .step)
       (record { across = omega (arith, ha .within); down = omega (arith, hb .within) }) e₀ e₁ e₂ (e₃ ∙ ap (λ z. b .step * z) (sym ew)) e₄ (λ z. ew ∙ ha .lone z) (λ z. eh ∙ hb .lone z)
-      (λ i j li lj. (ha .near i li ∙ ap (λ z. z + i * a .step) (sym el), omega (arith, ha .room i li), hb .near j lj ∙ ap (λ z. z + j * b .step) (sym et), omega (arith, hb .room j lj))) in
-      (k .inside, λ i j li lj. subst (Carried c i j) (sym (shows-near a b g sh ha hb i j li lj)) (k .each i j li lj), k .wide)
+      (λ i j li lj. (ha .near i li ∙ ap (λ z. z + i * a .step) (sym el), omega (arith, ha .room i li), hb .near j lj ∙ ap (λ z. z + j * b .step) (sym et), omega (arith, hb .room j lj))) (ha .single) (hb .single) in
+      (k .inside, λ i j li lj. subst (Carried c i j) (sym (shows-near a b g sh ha hb i j li lj)) (k .each i j li lj), k .wide, k .steady)
 
   pub is-edge : (a b : Option Spread) (g : declared.Ground) → Shows a b g → Spreads a (p .left) x (p .width) W → Spreads b (p .top) y (p .height) H → (a ≡ None) ⊎ (b ≡ None) → Aims aim.Edge (placing g) W H p
   is-edge a b g sh ha hb z = (long a b ha hb z, λ idle. needs a b sh ha hb idle)

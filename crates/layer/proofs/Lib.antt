@@ -10,3 +10,5 @@ pub mod Mixing
 pub mod Placing
 pub mod Rowing
 pub mod Bounding
+pub mod Deciding
+pub mod Telling

@@ -30,19 +30,19 @@ wider at W H W′ H′ a b h = record { across = omega (arith, h .across); down 
 
 pub aims-same : (c : Carry) (W H : ℕ) (p : Rect) → Copies c (p .left + 0 + p .width) (p .top + 0 + p .height) p (λ u v. u + 0) (λ u v. v + 0) → p .left + p .width ≤ W → p .top + p .height ≤ H
     → Aims (aim.Copy c) (formula Same W H) W H p
-aims-same c W H p k x y = (wider (c .at) _ _ W H (omega arith) (omega arith) (k .inside), λ i j li lj. simp add-zero at (k .each i j li lj), k .wide)
+aims-same c W H p k x y = (wider (c .at) _ _ W H (omega arith) (omega arith) (k .inside), λ i j li lj. simp add-zero at (k .each i j li lj), k .wide, k .steady)
 
 pub aims-crop : (c : Carry) (l t w h W H : ℕ) (p : Rect) → Copies c (p .left + l + p .width) (p .top + t + p .height) p (λ u v. u + l) (λ u v. v + t) → p .left + l + p .width ≤ W → p .top + t + p .height ≤ H
     → Aims (aim.Copy c) (formula (Crop l t w h) W H) W H p
-aims-crop c l t w h W H p k x y = (wider (c .at) _ _ W H x y (k .inside), k .each, k .wide)
+aims-crop c l t w h W H p k x y = (wider (c .at) _ _ W H x y (k .inside), k .each, k .wide, k .steady)
 
 pub aims-flip : (a : Axis) (c : Carry) (W H : ℕ) (p : Rect) → Flips a c W H p → Aims (aim.Copy c) (formula (Flip a) W H) W H p
-aims-flip Horizontal c W H p k = (k .inside, k .each, k .wide)
-aims-flip Vertical c W H p k = (k .inside, k .each, k .wide)
+aims-flip Horizontal c W H p k = (k .inside, k .each, k .wide, k .steady)
+aims-flip Vertical c W H p k = (k .inside, k .each, k .wide, k .steady)
 
 pub aims-rot : (t : Turn) (c : Carry) (W H : ℕ) (p : Rect) → Turns t c W H p → Aims (aim.Copy c) (formula (Rot t) W H) W H p
-aims-rot D90 c W H p k = (k .inside, k .each, k .wide)
-aims-rot D270 c W H p k = (k .inside, k .each, k .wide)
+aims-rot D90 c W H p k = (k .inside, k .each, k .wide, k .steady)
+aims-rot D270 c W H p k = (k .inside, k .each, k .wide, k .steady)
 
 pub aims-embed : (a : Aim) (x y : ℤ) (w h W H : ℕ) (o : Option declared.Ground) (g : declared.Ground) (p : Rect) → g ≡ groundOf o → Aims a (λ u v. embedded g W H (pos u -ℤ x) (pos v -ℤ y)) W H p
     → Aims a (formula (Embed x y w h o) W H) W H p

@@ -42,6 +42,14 @@ pub record Stops (c : Carry) (i j x y : ℕ) : Type 0 where
   pub moved : i * c .left ≤ c .base + j * c .down - j * c .up + i * c .right
   pub there : walked c i j ≡ spot (c .at) x y
 
+-- the strides are small
+pub record Steady (c : Carry) : Type 0 where
+  pub base : c .base ≤ 65535 * 65535
+  pub right : c .right ≤ 65535
+  pub left : c .left ≤ 65535
+  pub down : c .down ≤ 65535
+  pub up : c .up ≤ 65535
+
 abbrev pub Carried : Carry → ℕ → ℕ → Formula → Type 0
 Carried c i j black = ⊥
 Carried c i j white = ⊥
@@ -95,6 +103,7 @@ pub record Copies (c : Carry) (W H : ℕ) (p : Rect) (X Y : ℕ → ℕ → ℕ)
   pub inside : Inside (c .at) W H
   pub each : (i j : ℕ) → i < p .width → j < p .height → Stops c i j (X (p .left + i) (p .top + j)) (Y (p .left + i) (p .top + j))
   pub wide : p .width ≡ 1 → p .height ≡ 1 → area (c .at) ≡ 1
+  pub steady : Steady c
 
 abbrev pub Flips : Axis → Carry → ℕ → ℕ → Rect → Type 0
 Flips Horizontal c W H p = Copies c W H p (λ u v. W - 1 - u) (λ u v. v)
@@ -143,7 +152,7 @@ weightsOf m k = getD (kernel m .coefficients) k (pos 0)
 abbrev pub Aims : Aim → (ℕ → ℕ → Formula) → ℕ → ℕ → Rect → Type 0
 Aims aim.Black φ W H p = Each φ p (λ i j f. f ≡ black)
 Aims aim.White φ W H p = Each φ p (λ i j f. f ≡ white)
-Aims (aim.Copy c) φ W H p = Inside (c .at) W H × Each φ p (Carried c) × (p .width ≡ 1 → p .height ≡ 1 → area (c .at) ≡ 1)
+Aims (aim.Copy c) φ W H p = Inside (c .at) W H × Each φ p (Carried c) × (p .width ≡ 1 → p .height ≡ 1 → area (c .at) ≡ 1) × Steady c
 Aims (aim.Mean l) φ W H p = Inside (l .at) W H × Each φ p (Mixed l ones (l .columns * l .rows) (pos 0)) × Fair l p
 Aims (aim.Masked l m) φ W H p = Inside (l .at) W H × Each φ p (Mixed l (weightsOf m) (kernel m .scale) (kernel m .offset)) × Fair l p
 -- a single place lies across no edge, and a part that does needs something of below

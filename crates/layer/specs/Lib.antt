@@ -1,4 +1,6 @@
 pub mod Sums
 pub mod Spreads
 pub mod Aims
+pub mod Laid
 pub mod Layers
+pub mod Laws

@@ -4,6 +4,8 @@ mod aim;
 mod aims;
 mod ask;
 mod blend;
+mod draws;
+mod laws;
 mod layer;
 mod making;
 mod masks;
@@ -14,6 +16,8 @@ mod spread;
 mod spreads;
 mod weights;
 
+pub use laws::first_hole_told;
+pub use laws::region_decides;
 pub use layer::Layer;
 pub use showing::LayerPicture;
 pub use showing::LayerRows;
