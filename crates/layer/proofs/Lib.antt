@@ -12,3 +12,4 @@ pub mod Rowing
 pub mod Bounding
 pub mod Deciding
 pub mod Telling
+pub mod Laying

@@ -103,10 +103,9 @@ fn lay_row<D: Draw>(
     ensures rest { λ _. ⌜ drop (area rect) (now (buffer .exit)) ≡ drop (area rect) (now (buffer .entry)) ⌝ }
 {
     let wide = part.width;
-    let start = (part.top - rect.top + j) as usize * rect.width as usize
-        + (part.left - rect.left) as usize;
+    let above = (part.top - rect.top + j) as usize * rect.width as usize;
     for i in 0..wide {
-        buffer[start + i as usize] = draw.draw(codes, i, j);
+        buffer[above + (part.left - rect.left + i) as usize] = draw.draw(codes, i, j);
     }
 }
 
