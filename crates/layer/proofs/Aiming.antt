@@ -141,6 +141,7 @@ frames-boxes l f g p f₁ f₂ g₁ g₂ el et ew eh c₀ c₁ c₂ c₃ c₄ c�
     omega (arith, box-column (p .top) j (p .height) g r (l .at .height) lj (omega arith) eh);
   fair = let few : Few l = record {
     some = omega arith;
+    any = omega arith;
     few = omega (arith, ap (λ z. z * l .rows) c₀, ap (λ z. f * z) c₁, mul-le f g 64 64 f₂ g₂);
     small = (omega arith, omega arith, omega arith, omega arith);
   } in record {

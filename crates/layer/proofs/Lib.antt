@@ -13,3 +13,4 @@ pub mod Bounding
 pub mod Deciding
 pub mod Telling
 pub mod Laying
+pub mod Parting

@@ -20,7 +20,7 @@ use Rattle.picture.specs.Prepare.{up}
 use Rattle.picture.specs.Steps.{Formula, black, white, copied, mixed, fitting, formula, kernel, widthOf, heightOf}
 use Rattle.layer.specs.declared.aim.Lens.{Lens}
 use Rattle.layer.specs.declared.layer.Layer.{Layer}
-use Rattle.layer.specs.Aims.{Inside, Lone, Mixed}
+use Rattle.layer.specs.Aims.{Few, Inside, Mixed}
 use Rattle.layer.specs.Layers.{Kept, Sound, Stands, modelOf, raised}
 
 module _ {K : Type 0} (b : Image K) (s : Step) (z : Size) where
@@ -76,8 +76,8 @@ mixed-as l w x s t f g i j (copied p q) e a b m = m
 mixed-as l w x s t f g i j (mixed n tap scale offset) e a b m =
     record { all = m .all; scaled = m .scaled ∙ a; moved = m .moved ∙ b; columns = m .columns; rows = m .rows; weights = λ k h. m .weights k h ∙ e k }
 
-pub lone-places : (l : Lens) → Lone l → 1 ≤ l .columns * l .rows
-lone-places l h = mul-le 1 1 (l .columns) (l .rows) (h .few .some) (omega (arith, h .high, l .at .high))
+pub few-places : (l : Lens) → Few l → 1 ≤ l .columns * l .rows
+few-places l h = mul-le 1 1 (l .columns) (l .rows) (h .some) (h .any)
 
 module _ {P K S : Type 0} (o : Ops K S) (model : P → Model K) (count : P → ℕ) where
   pub kept-none : (l m : Layer P) → l .below ≡ m .below → l .step ≡ m .step → l .size ≡ m .size → l .count ≡ m .count → Kept o model count l m
@@ -85,6 +85,9 @@ module _ {P K S : Type 0} (o : Ops K S) (model : P → Model K) (count : P → �
 
   pub kept-one : (l m : Layer P) → model (m .below) ≡ model (l .below) → count (m .below) ≡ up (count (l .below)) → l .step ≡ m .step → l .size ≡ m .size → l .count ≡ m .count → Kept o model count l m
   kept-one l m e a s z c = record { shows = sym e; step = s; size = z; count = c; times = 1; asked = a }
+
+  pub kept-times : (l m : Layer P) → model (m .below) ≡ model (l .below) → ((n : ℕ) × (count (m .below) ≡ raised n (count (l .below)))) → l .step ≡ m .step → l .size ≡ m .size → l .count ≡ m .count → Kept o model count l m
+  kept-times l m e a s z c = record { shows = sym e; step = s; size = z; count = c; times = a .0; asked = a .1 }
 
   raised-add : (n k c : ℕ) → raised n (raised k c) ≡ raised (k + n) c
   raised-add zero k c = ap (λ z. raised z c) (sym (add-zero k))

@@ -85,6 +85,7 @@ Mixed l w s o i j (mixed n tap scale offset) = Mixes l w s o i j n tap scale off
 -- a window has places, and few enough for a sum
 pub record Few (l : Lens) : Type 0 where
   pub some : 1 ≤ l .columns
+  pub any : 1 ≤ l .rows
   pub few : l .columns * l .rows ≤ 4096
   pub small : (l .columns ≤ 64) × (l .rows ≤ 64) × (l .across ≤ 64) × (l .down ≤ 64)
 

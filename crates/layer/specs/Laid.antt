@@ -4,6 +4,10 @@ use mathlib.Core.List.{List}
 use Prim.Native.Nat.{ℕ, _+_, _<_, _≤_}
 use lib.ListN.{getD}
 use Rattle.picture.specs.declared.rect.Rect.{Rect}
+use Rattle.std.specs.declared.option.Option.the-variants.{Some}
+use Rattle.pixel.specs.Ops.{Ops}
+use Rattle.picture.specs.Images.{Image}
+use Rattle.picture.specs.Prepare.{coded}
 use Rattle.picture.specs.Region.{Within}
 use Rattle.layer.specs.Aims.{spot}
 
@@ -25,3 +29,7 @@ pub record Among (x y w h u v : ℕ) : Type 0 where
 pub record Laid (r : Rect) (x y w h : ℕ) (P : ℕ → ℕ → ℕ → Type 0) (before after : List ℕ) : Type 0 where
   pub inside : (u v : ℕ) → Among x y w h u v → P u v (getD after (spot r u v) 0)
   pub outside : (u v : ℕ) → Within r u v → (Among x y w h u v → ⊥) → getD after (spot r u v) 0 ≡ getD before (spot r u v) 0
+
+-- a picture's places of the part are pixels, with these codes
+abbrev pub Shows : {K S : Type 0} → Ops K S → Image K → Rect → Rect → List ℕ → List ℕ → Type 0
+Shows o b r p = Laid r (p .left) (p .top) (p .width) (p .height) (λ u v c. coded o (b .at u v) ≡ Some c)

@@ -6,7 +6,7 @@ ghost use denote.Ref.{now};
 use crate::masks::Stencil;
 
 /// The weights of a window, in reading order.
-pub(crate) trait Weights {
+pub(crate) trait Weights: Copy {
     ghost weighs: { Self → ℕ → ℤ };
 
     fn weight(&self, index: usize) -> i32

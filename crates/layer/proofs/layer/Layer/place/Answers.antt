@@ -12,7 +12,7 @@ use Rattle.picture.specs.Compose.{taken}
 use Rattle.picture.specs.Steps.{Formula, formula, kernel}
 use Rattle.layer.specs.Aims.{Lone, ones, weightsOf}
 use Rattle.layer.specs.Layers.{located}
-use Rattle.layer.proofs.Placing.{kept-none, kept-one, light-mask, lone-places, mask-scaled, mixed-as, stood, stood-inside, stood-still}
+use Rattle.layer.proofs.Placing.{kept-none, kept-one, light-mask, few-places, mask-scaled, mixed-as, stood, stood-inside, stood-still}
 use Rattle.layer.proofs.layer.Layer.place.Needs as need
 
 pub blend-requires : need.blend-requires
@@ -27,7 +27,7 @@ blend-requires g c κs =
       lens = lone;
       room = search needs;
       light = λ k. omega arith;
-      scale = lone-places (c .in-Mean .lens) lone;
+      scale = few-places (c .in-Mean .lens) (lone .few);
       maxval = c .pre .sound .1 .maxval;
     }
 
