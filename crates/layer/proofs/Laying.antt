@@ -9,6 +9,10 @@ use lib.ListN.{length, getD, set}
 use Rattle.std.proofs.shelf.Lists.{getD-set-same, getD-set-other}
 use Rattle.std.proofs.shelf.Bits.{div-mul-add, mod-mul-add}
 use Rattle.picture.specs.declared.rect.Rect.{Rect}
+use Rattle.std.specs.declared.option.Option.the-variants.{Some}
+use Rattle.pixel.specs.Ops.{Ops}
+use Rattle.picture.specs.Images.{Image}
+use Rattle.picture.specs.Prepare.{coded}
 use Rattle.picture.specs.Region.{Within}
 use Rattle.layer.specs.Aims.{spot}
 use Rattle.layer.specs.Laid.{Among, Laid, Part}
@@ -91,3 +95,13 @@ pub part-spot : (r p : Rect) (i j : ℕ) → Part r p → (p .top - r .top + j) 
 part-spot r p i j k =
     let ey : p .top - r .top + j ≡ p .top + j - r .top = omega (arith, k .top) in
     omega (arith, ap (λ z. z * r .width) ey, k .left)
+
+pub laid-width : (r : Rect) (x y w n h : ℕ) (P : Marks) (t₀ t₁ : List ℕ) → w ≡ n → Laid r x y w h P t₀ t₁ → Laid r x y n h P t₀ t₁
+laid-width r x y w n h P t₀ t₁ e l = subst (λ (k : ℕ). Laid r x y k h P t₀ t₁) e l
+
+pub laid-height : (r : Rect) (x y w h n : ℕ) (P : Marks) (t₀ t₁ : List ℕ) → h ≡ n → Laid r x y w h P t₀ t₁ → Laid r x y w n P t₀ t₁
+laid-height r x y w h n P t₀ t₁ e l = subst (λ (k : ℕ). Laid r x y w k P t₀ t₁) e l
+
+-- the same picture shows the same
+pub laid-view : {K S : Type 0} (o : Ops K S) (a b : Image K) (r : Rect) (x y w h : ℕ) (t₀ t₁ : List ℕ) → a ≡ b → Laid r x y w h (λ u v c. coded o (a .at u v) ≡ Some c) t₀ t₁ → Laid r x y w h (λ u v c. coded o (b .at u v) ≡ Some c) t₀ t₁
+laid-view {K = K} o a b r x y w h t₀ t₁ e l = subst (λ (i : Image K). Laid r x y w h (λ u v c. coded o (i .at u v) ≡ Some c) t₀ t₁) e l

@@ -17,6 +17,7 @@ mod places;
 mod showing;
 mod spread;
 mod spreads;
+mod tiles;
 mod weights;
 
 pub use laws::first_hole_told;

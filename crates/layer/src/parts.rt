@@ -110,7 +110,7 @@ impl<P: Picture> Layer<P> {
     }
 
     /// A part at once, or it says no.
-    fn block(&mut self, rect: Rect, part: Rect, buffer: &mut [u64]) -> bool
+    pub(crate) fn block(&mut self, rect: Rect, part: Rect, buffer: &mut [u64]) -> bool
         requires sound { ⌜ Sound (Pixel·Kind .ops) (P·Picture .model) (P·Picture .sound) (now self) ⌝ }
         requires part { ⌜ Part rect part ⌝ }
         requires across { ⌜ rect .left + rect .width ≤ modelOf (Pixel·Kind .ops) (P·Picture .model) (now self) .shown .width ⌝ }
