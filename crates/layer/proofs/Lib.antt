@@ -14,3 +14,4 @@ pub mod Deciding
 pub mod Telling
 pub mod Laying
 pub mod Parting
+pub mod Tiling

@@ -1,5 +1,5 @@
 ghost use mathlib.Core.Path.{_≡_};
-ghost use mathlib.Core.Bool.{true};
+ghost use mathlib.Core.Bool.{false, true};
 ghost use mathlib.Core.List.{List};
 ghost use Prim.Native.Nat.{ℕ, _+_, _-_, _<_, _≤_};
 ghost use lib.IntN.{natAbs};
@@ -49,6 +49,7 @@ fn draw_part<P: Picture, D: Draw>(
     requires can { ⌜ ((codes : List ℕ) → area at ≤ length codes → Shown (Pixel·Kind .ops) (nth (P·Picture .model (now below) .shown) at) (area at) codes → (i j : ℕ) → i < part .width → j < part .height → D·Draw .can (now draw) codes i j) ⌝ }
     requires room { ⌜ area rect ≤ length (now buffer) ⌝ }
     ensures laid { λ r. ⌜ (r ≡ true → (codes : List ℕ) × Shown (Pixel·Kind .ops) (nth (P·Picture .model (now (below .entry)) .shown) at) (area at) codes × Laid rect (part .left) (part .top) (part .width) (part .height) (λ u v c. c ≡ D·Draw .drawn (now (draw .entry)) codes (u - part .left) (v - part .top)) (now (buffer .entry)) (now (buffer .exit))) ⌝ }
+    ensures spared { λ r. ⌜ (r ≡ false → now (buffer .exit) ≡ now (buffer .entry)) ⌝ }
     ensures rest { λ _. ⌜ drop (area rect) (now (buffer .exit)) ≡ drop (area rect) (now (buffer .entry)) ⌝ }
     ensures keeps { λ _. ⌜ P·Picture .model (now (below .exit)) ≡ P·Picture .model (now (below .entry)) ⌝ }
     ensures counts { λ _. ⌜ ((n : ℕ) × (P·Picture .count (now (below .exit)) ≡ raised n (P·Picture .count (now (below .entry))))) ⌝ }
@@ -86,6 +87,7 @@ impl<P: Picture> Layer<P> {
         requires part { ⌜ Part rect part ⌝ }
         requires room { ⌜ area rect ≤ length (now buffer) ⌝ }
         ensures laid { λ r. ⌜ (r ≡ true → Laid rect (part .left) (part .top) (part .width) (part .height) (λ u v c. (φ : Formula) → Mixed lens (W·Weights .weighs weights) scale offset (u - part .left) (v - part .top) φ → coded (Pixel·Kind .ops) (taken (Pixel·Kind .ops) (P·Picture .model (now (self .entry) .below) .shown .maxval) (P·Picture .model (now (self .entry) .below) .shown .at) φ) ≡ Some c) (now (buffer .entry)) (now (buffer .exit))) ⌝ }
+        ensures spared { λ r. ⌜ (r ≡ false → now (buffer .exit) ≡ now (buffer .entry)) ⌝ }
         ensures rest { λ _. ⌜ drop (area rect) (now (buffer .exit)) ≡ drop (area rect) (now (buffer .entry)) ⌝ }
         ensures kept { λ _. ⌜ Kept (Pixel·Kind .ops) (P·Picture .model) (P·Picture .count) (now (self .entry)) (now (self .exit)) ⌝ }
         ensures sound { λ _. ⌜ Sound (Pixel·Kind .ops) (P·Picture .model) (P·Picture .sound) (now (self .exit)) ⌝ }
@@ -117,6 +119,7 @@ impl<P: Picture> Layer<P> {
         requires down { ⌜ rect .top + rect .height ≤ modelOf (Pixel·Kind .ops) (P·Picture .model) (now self) .shown .height ⌝ }
         requires room { ⌜ area rect ≤ length (now buffer) ⌝ }
         ensures laid { λ r. ⌜ (r ≡ true → Shows (Pixel·Kind .ops) (modelOf (Pixel·Kind .ops) (P·Picture .model) (now (self .entry)) .shown) rect part (now (buffer .entry)) (now (buffer .exit))) ⌝ }
+        ensures spared { λ r. ⌜ (r ≡ false → now (buffer .exit) ≡ now (buffer .entry)) ⌝ }
         ensures rest { λ _. ⌜ drop (area rect) (now (buffer .exit)) ≡ drop (area rect) (now (buffer .entry)) ⌝ }
         ensures kept { λ _. ⌜ Kept (Pixel·Kind .ops) (P·Picture .model) (P·Picture .count) (now (self .entry)) (now (self .exit)) ⌝ }
         ensures sound { λ _. ⌜ Sound (Pixel·Kind .ops) (P·Picture .model) (P·Picture .sound) (now (self .exit)) ⌝ }

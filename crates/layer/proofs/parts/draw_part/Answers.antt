@@ -14,6 +14,7 @@ lay-requires g c κs = record {
 pub returns-in-Ok : need.returns-in-Ok
 returns-in-Ok g c = record {
   laid = λ z. (c .ask .last .codes, c .ask .ensures .shown (c .in-Ok .is), c .lay .ensures .laid);
+  spared = λ z. let n : _≡_ {A = ℕ} 0 1 = cc in absurd (omega arith);
   rest = c .lay .ensures .rest;
   keeps = c .ask .ensures .keeps;
   counts = (1, c .ask .ensures .counts);
@@ -23,6 +24,7 @@ returns-in-Ok g c = record {
 pub returns-in-Err : need.returns-in-Err
 returns-in-Err g c = record {
   laid = λ z. let n : _≡_ {A = ℕ} 0 1 = cc in absurd (omega arith);
+  spared = λ z. refl;
   rest = refl;
   keeps = c .ask .ensures .keeps;
   counts = (1, c .ask .ensures .counts);

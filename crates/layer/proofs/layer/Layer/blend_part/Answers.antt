@@ -43,6 +43,7 @@ returns g c =
           ∙ ap (λ x. Some (o .code (o .finish (summed o (lensPixel o (d .0) n (u - p .left) (v - p .top)) w (n .columns * n .rows)) (c .args .scale) (c .args .offset) x))) (sym (c .pre .sound .1 .maxval))
           ∙ ap (λ x. Some (o .code (o .finish (summed o (lensPixel o (d .0) n (u - p .left) (v - p .top)) w (n .columns * n .rows)) (c .args .scale) x (l .size .maxval)))) (sym (toZ-ofZ fits))
           ∙ ap Some (sym q)) (d .2);
+      spared = c .draw-part .ensures .spared;
       rest = c .draw-part .ensures .rest;
       kept = kept-times o (g .P·Picture .model) (g .P·Picture .count) _ _ (c .draw-part .ensures .keeps) (c .draw-part .ensures .counts) refl refl refl;
       sound = (c .draw-part .ensures .sound, stood-still b (l .step) (l .size) _ (ap (λ m. m .shown) (c .draw-part .ensures .keeps)) (c .pre .sound .1));

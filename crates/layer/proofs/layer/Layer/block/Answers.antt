@@ -78,6 +78,7 @@ returns-in-Black g c =
     record {
       laid = λ z. shows-drawn o b (l .step) (l .size) (c .args .rect) (c .args .part) _ _ _ (c .pre .sound .1)
         (λ i j k li lj q. ap (λ f. coded o (taken o (b .maxval) (b .at) f)) (c .in-Black .ensures tt i j li lj) ∙ ap Some (sym (q ∙ c .code .ensures ∙ ap (o .code) (c .black-pixel .ensures)))) (c .lay .ensures .laid);
+      spared = λ z. let n : _≡_ {A = ℕ} 0 1 = cc in absurd (omega arith);
       rest = c .lay .ensures .rest;
       kept = kept-none o (g .P·Picture .model) (g .P·Picture .count) _ _ refl refl refl refl;
       sound = c .pre .sound;
@@ -93,6 +94,7 @@ returns-in-White g c =
       laid = λ z. shows-drawn o b (l .step) (l .size) (c .args .rect) (c .args .part) _ _ _ (c .pre .sound .1)
         (λ i j k li lj q. ap (λ f. coded o (taken o (b .maxval) (b .at) f)) (c .in-White .ensures tt i j li lj)
         ∙ ap Some (sym (q ∙ c .code-in-White .ensures ∙ ap (o .code) (c .white-pixel .ensures ∙ ap (o .white) (c .pre .sound .1 .maxval))))) (c .lay-in-White .ensures .laid);
+      spared = λ z. let n : _≡_ {A = ℕ} 0 1 = cc in absurd (omega arith);
       rest = c .lay-in-White .ensures .rest;
       kept = kept-none o (g .P·Picture .model) (g .P·Picture .count) _ _ refl refl refl refl;
       sound = c .pre .sound;
@@ -114,6 +116,7 @@ returns-in-Copy g c =
           let ej : j ≡ p .top + j - p .top = omega arith in
           coded-carried o b (c .in-Copy .carry) (d .0) i j _ (d .1) (a .1 i j li lj)
           ∙ ap Some (ap (λ x. getD (d .0) (walked (c .in-Copy .carry) x j) 0) ei ∙ ap (λ y. getD (d .0) (walked (c .in-Copy .carry) (p .left + i - p .left) y) 0) ej ∙ sym q)) (d .2);
+      spared = c .draw-part .ensures .spared;
       rest = c .draw-part .ensures .rest;
       kept = kept-times o (g .P·Picture .model) (g .P·Picture .count) _ _ (c .draw-part .ensures .keeps) (c .draw-part .ensures .counts) refl refl refl;
       sound = (c .draw-part .ensures .sound, stood-still b (l .step) (l .size) _ (ap (λ m. m .shown) (c .draw-part .ensures .keeps)) (c .pre .sound .1));
@@ -131,6 +134,7 @@ returns-in-Mean g c =
     record {
       laid = λ z. shows-drawn o b (l .step) (l .size) (c .args .rect) p _ _ _ (c .pre .sound .1)
         (λ i j k li lj q. q _ (mixed-at n ones (n .columns * n .rows) (pos 0) i j p _ (a .1 i j li lj))) (c .blend-part .ensures .laid z);
+      spared = c .blend-part .ensures .spared;
       rest = c .blend-part .ensures .rest;
       kept = c .blend-part .ensures .kept;
       sound = c .blend-part .ensures .sound;
@@ -153,6 +157,7 @@ returns-in-Masked g c =
         (λ i j k li lj q. q _ (mixed-at n (λ k. getD (s .weights) k (pos 0)) (s .scale) _ i j p _
           (mixed-as n (weightsOf m) (λ k. getD (s .weights) k (pos 0)) (kernel m .scale) (s .scale) (kernel m .offset) _ i j _ (λ k. ap (λ x. getD x k (pos 0)) (sym (c .of-mask-mask .ensures .weights)))
           (sym (c .of-mask-mask .ensures .scale)) (sym (c .of-mask-mask .ensures .offset) ∙ sym (toZ-ofZ fits)) (a .1 i j li lj)))) (c .blend-part-in-Masked .ensures .laid z);
+      spared = c .blend-part-in-Masked .ensures .spared;
       rest = c .blend-part-in-Masked .ensures .rest;
       kept = c .blend-part-in-Masked .ensures .kept;
       sound = c .blend-part-in-Masked .ensures .sound;
@@ -164,6 +169,7 @@ returns-in-Edge g c =
     let o = g .Pixel·Kind .ops in
     record {
       laid = λ z. let n : _≡_ {A = ℕ} 0 1 = cc in absurd (omega arith);
+      spared = λ z. refl;
       rest = refl;
       kept = kept-none o (g .P·Picture .model) (g .P·Picture .count) _ _ refl refl refl refl;
       sound = c .pre .sound;
