@@ -15,3 +15,4 @@ pub mod Telling
 pub mod Laying
 pub mod Parting
 pub mod Tiling
+pub mod Serving

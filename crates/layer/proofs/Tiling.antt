@@ -12,7 +12,7 @@ use Rattle.picture.specs.Steps.{Formula, formula}
 use Rattle.layer.specs.declared.layer.Layer.{Layer}
 use Rattle.layer.specs.Aims.{Ground, Needless}
 use Rattle.layer.specs.Laid.{Laid, Part, Shows}
-use Rattle.layer.specs.Layers.{Kept}
+use Rattle.layer.specs.Layers.{Kept, Stands}
 use Rattle.layer.proofs.Laying.{laid-above, laid-beside}
 
 laid-moved : (r : Rect) (x x′ y y′ w w′ h h′ : ℕ) (P : ℕ → ℕ → ℕ → Type 0) (t₀ t₁ : List ℕ) → x ≡ x′ → y ≡ y′ → w ≡ w′ → h ≡ h′ → Laid r x y w h P t₀ t₁ → Laid r x′ y′ w′ h′ P t₀ t₁
@@ -76,3 +76,7 @@ needless-part φ p q k n i j li lj =
 pub needless-kept : {P K S : Type 0} (o : Ops K S) (model : P → Model K) (count : P → ℕ) (l m : Layer P) (p : Rect) → Kept o model count l m → Needless (formula (l .step) (l .size .width) (l .size .height)) p → Needless (formula (m .step) (m .size .width) (m .size .height)) p
 needless-kept o model count l m p k n =
     subst (λ (z : Size). Needless (formula (m .step) (z .width) (z .height)) p) (k .size) (subst (λ (s : Step). Needless (formula s (l .size .width) (l .size .height)) p) (k .step) n)
+
+-- of the picture below or of the size that is kept
+pub needless-stood : {K : Type 0} (b : Image K) (s : Step) (z : Size) (p : Rect) → Stands b s z → Needless (formula s (b .width) (b .height)) p → Needless (formula s (z .width) (z .height)) p
+needless-stood b s z p h n = subst (λ (k : ℕ). Needless (formula s (z .width) k) p) (sym (h .height)) (subst (λ (k : ℕ). Needless (formula s k (b .height)) p) (sym (h .width)) n)

@@ -4,4 +4,5 @@ pub mod Aims
 pub mod Laid
 pub mod Cuts
 pub mod Layers
+pub mod Asked
 pub mod Laws
