@@ -46,12 +46,12 @@ pub copies-spread : (c : Carry) (W H : ℕ) (p : Rect) (X Y : ℕ → ℕ → �
 copies-spread c W H p X Y sx sy at e₀ e₁ e₂ e₃ e₄ w h each lx ly = record {
   inside = at;
   each = λ i j li lj.
-    let f = each i j li lj in
-    let m₁ : i * c .right ≡ i * sx = ap (λ z. i * z) e₁ in
-    let m₂ : i * c .left ≡ 0 = ap (λ z. i * z) e₂ ∙ omega arith in
-    let m₃ : j * c .down ≡ j * sy * c .at .width = ap (λ z. j * z) e₃ ∙ sym (mul-assoc j sy (c .at .width)) in
-    let m₄ : j * c .up ≡ 0 = ap (λ z. j * z) e₄ ∙ omega arith in
-    stops c i j _ _ (i * sx) (j * sy) (f .0) (f .2) (f .1) (f .3) (omega arith) (omega arith) (omega arith);
+      let f = each i j li lj in
+      let m₁ : i * c .right ≡ i * sx = ap (λ z. i * z) e₁ in
+      let m₂ : i * c .left ≡ 0 = ap (λ z. i * z) e₂ ∙ omega arith in
+      let m₃ : j * c .down ≡ j * sy * c .at .width = ap (λ z. j * z) e₃ ∙ sym (mul-assoc j sy (c .at .width)) in
+      let m₄ : j * c .up ≡ 0 = ap (λ z. j * z) e₄ ∙ omega arith in
+      stops c i j _ _ (i * sx) (j * sy) (f .0) (f .2) (f .1) (f .3) (omega arith) (omega arith) (omega arith);
   wide = λ a b. one-place c (w a) (h b);
   steady = record { base = omega arith; right = omega arith; left = omega arith; down = omega (arith, mul-le-mul-right (c .at .width) ly, one-mul (c .at .width), c .at .across); up = omega arith };
 }
@@ -62,11 +62,11 @@ pub copies-mirrored : (c : Carry) (W H : ℕ) (p : Rect) → p .left + p .width 
 copies-mirrored c W H p x y l t w h e₀ e₁ e₂ e₃ e₄ = record {
   inside = record { across = omega arith; down = omega arith };
   each = λ i j li lj.
-    let m₁ : i * c .right ≡ 0 = ap (λ z. i * z) e₁ ∙ omega arith in
-    let m₂ : i * c .left ≡ i = ap (λ z. i * z) e₂ ∙ omega arith in
-    let m₃ : j * c .down ≡ j * c .at .width = ap (λ z. j * z) (e₃ ∙ sym w) in
-    let m₄ : j * c .up ≡ 0 = ap (λ z. j * z) e₄ ∙ omega arith in
-    stops c i j _ _ (p .width - 1 - i) j (omega arith) (omega arith) (omega arith) (omega arith) (omega arith) (omega arith) (omega arith);
+      let m₁ : i * c .right ≡ 0 = ap (λ z. i * z) e₁ ∙ omega arith in
+      let m₂ : i * c .left ≡ i = ap (λ z. i * z) e₂ ∙ omega arith in
+      let m₃ : j * c .down ≡ j * c .at .width = ap (λ z. j * z) (e₃ ∙ sym w) in
+      let m₄ : j * c .up ≡ 0 = ap (λ z. j * z) e₄ ∙ omega arith in
+      stops c i j _ _ (p .width - 1 - i) j (omega arith) (omega arith) (omega arith) (omega arith) (omega arith) (omega arith) (omega arith);
   wide = λ a b. one-place c (w ∙ a) (h ∙ b);
   steady = record { base = omega (arith, p .across, p .down); right = omega (arith, p .across, p .down); left = omega (arith, p .across, p .down); down = omega (arith, p .across, p .down); up = omega (arith, p .across, p .down) };
 }
@@ -77,14 +77,14 @@ pub copies-upturned : (c : Carry) (W H : ℕ) (p : Rect) → p .left + p .width 
 copies-upturned c W H p x y l t w h e₀ e₁ e₂ e₃ e₄ = record {
   inside = record { across = omega arith; down = omega arith };
   each = λ i j li lj.
-    let le : j ≤ p .height - 1 = omega arith in
-    let m₁ : i * c .right ≡ i = ap (λ z. i * z) e₁ ∙ omega arith in
-    let m₂ : i * c .left ≡ 0 = ap (λ z. i * z) e₂ ∙ omega arith in
-    let m₃ : j * c .down ≡ 0 = ap (λ z. j * z) e₃ ∙ omega arith in
-    let m₄ : j * c .up ≡ j * p .width = ap (λ z. j * z) e₄ in
-    let m₅ : (p .height - 1 - j) * c .at .width ≡ (p .height - 1) * p .width - j * p .width = ap (λ z. (p .height - 1 - j) * z) w ∙ sub-mul (p .height - 1) j (p .width) in
-    let m₆ : j * p .width ≤ (p .height - 1) * p .width = mul-le-mul-right (p .width) le in
-    stops c i j _ _ i (p .height - 1 - j) (omega arith) (omega arith) (omega arith) (omega arith) (omega arith) (omega arith) (omega arith);
+      let le : j ≤ p .height - 1 = omega arith in
+      let m₁ : i * c .right ≡ i = ap (λ z. i * z) e₁ ∙ omega arith in
+      let m₂ : i * c .left ≡ 0 = ap (λ z. i * z) e₂ ∙ omega arith in
+      let m₃ : j * c .down ≡ 0 = ap (λ z. j * z) e₃ ∙ omega arith in
+      let m₄ : j * c .up ≡ j * p .width = ap (λ z. j * z) e₄ in
+      let m₅ : (p .height - 1 - j) * c .at .width ≡ (p .height - 1) * p .width - j * p .width = ap (λ z. (p .height - 1 - j) * z) w ∙ sub-mul (p .height - 1) j (p .width) in
+      let m₆ : j * p .width ≤ (p .height - 1) * p .width = mul-le-mul-right (p .width) le in
+      stops c i j _ _ i (p .height - 1 - j) (omega arith) (omega arith) (omega arith) (omega arith) (omega arith) (omega arith) (omega arith);
   wide = λ a b. one-place c (w ∙ a) (h ∙ b);
   steady = record { base = omega (arith, mul-le (p .height - 1) (p .width) 65535 65535 (omega (arith, p .down)) (omega (arith, p .across))); right = omega (arith, p .across, p .down); left = omega (arith, p .across, p .down); down = omega (arith, p .across, p .down); up = omega (arith, p .across, p .down) };
 }
@@ -95,14 +95,14 @@ pub copies-quarter : (c : Carry) (W H : ℕ) (p : Rect) → p .left + p .width �
 copies-quarter c W H p x y l t w h e₀ e₁ e₂ e₃ e₄ = record {
   inside = record { across = omega arith; down = omega arith };
   each = λ i j li lj.
-    let le : i ≤ p .width - 1 = omega arith in
-    let m₁ : i * c .right ≡ 0 = ap (λ z. i * z) e₁ ∙ omega arith in
-    let m₂ : i * c .left ≡ i * p .height = ap (λ z. i * z) e₂ in
-    let m₃ : j * c .down ≡ j = ap (λ z. j * z) e₃ ∙ omega arith in
-    let m₄ : j * c .up ≡ 0 = ap (λ z. j * z) e₄ ∙ omega arith in
-    let m₅ : (p .width - 1 - i) * c .at .width ≡ (p .width - 1) * p .height - i * p .height = ap (λ z. (p .width - 1 - i) * z) w ∙ sub-mul (p .width - 1) i (p .height) in
-    let m₆ : i * p .height ≤ (p .width - 1) * p .height = mul-le-mul-right (p .height) le in
-    stops c i j _ _ j (p .width - 1 - i) (omega arith) (omega arith) (omega arith) (omega arith) (omega arith) (omega arith) (omega arith);
+      let le : i ≤ p .width - 1 = omega arith in
+      let m₁ : i * c .right ≡ 0 = ap (λ z. i * z) e₁ ∙ omega arith in
+      let m₂ : i * c .left ≡ i * p .height = ap (λ z. i * z) e₂ in
+      let m₃ : j * c .down ≡ j = ap (λ z. j * z) e₃ ∙ omega arith in
+      let m₄ : j * c .up ≡ 0 = ap (λ z. j * z) e₄ ∙ omega arith in
+      let m₅ : (p .width - 1 - i) * c .at .width ≡ (p .width - 1) * p .height - i * p .height = ap (λ z. (p .width - 1 - i) * z) w ∙ sub-mul (p .width - 1) i (p .height) in
+      let m₆ : i * p .height ≤ (p .width - 1) * p .height = mul-le-mul-right (p .height) le in
+      stops c i j _ _ j (p .width - 1 - i) (omega arith) (omega arith) (omega arith) (omega arith) (omega arith) (omega arith) (omega arith);
   wide = λ a b. one-place c (w ∙ b) (h ∙ a);
   steady = record { base = omega (arith, mul-le (p .width - 1) (p .height) 65535 65535 (omega (arith, p .across)) (omega (arith, p .down))); right = omega (arith, p .across, p .down); left = omega (arith, p .across, p .down); down = omega (arith, p .across, p .down); up = omega (arith, p .across, p .down) };
 }
@@ -113,11 +113,11 @@ pub copies-back : (c : Carry) (W H : ℕ) (p : Rect) → p .left + p .width ≤ 
 copies-back c W H p x y l t w h e₀ e₁ e₂ e₃ e₄ = record {
   inside = record { across = omega arith; down = omega arith };
   each = λ i j li lj.
-    let m₁ : i * c .right ≡ i * c .at .width = ap (λ z. i * z) (e₁ ∙ sym w) in
-    let m₂ : i * c .left ≡ 0 = ap (λ z. i * z) e₂ ∙ omega arith in
-    let m₃ : j * c .down ≡ 0 = ap (λ z. j * z) e₃ ∙ omega arith in
-    let m₄ : j * c .up ≡ j = ap (λ z. j * z) e₄ ∙ omega arith in
-    stops c i j _ _ (p .height - 1 - j) i (omega arith) (omega arith) (omega arith) (omega arith) (omega arith) (omega arith) (omega arith);
+      let m₁ : i * c .right ≡ i * c .at .width = ap (λ z. i * z) (e₁ ∙ sym w) in
+      let m₂ : i * c .left ≡ 0 = ap (λ z. i * z) e₂ ∙ omega arith in
+      let m₃ : j * c .down ≡ 0 = ap (λ z. j * z) e₃ ∙ omega arith in
+      let m₄ : j * c .up ≡ j = ap (λ z. j * z) e₄ ∙ omega arith in
+      stops c i j _ _ (p .height - 1 - j) i (omega arith) (omega arith) (omega arith) (omega arith) (omega arith) (omega arith) (omega arith);
   wide = λ a b. one-place c (w ∙ b) (h ∙ a);
   steady = record { base = omega (arith, p .across, p .down); right = omega (arith, p .across, p .down); left = omega (arith, p .across, p .down); down = omega (arith, p .across, p .down); up = omega (arith, p .across, p .down) };
 }
@@ -134,11 +134,11 @@ pub frames-boxes : (l : Lens) (f g : ℕ) (p : Rect) → 1 ≤ f → f ≤ 64 �
 frames-boxes l f g p f₁ f₂ g₁ g₂ el et ew eh c₀ c₁ c₂ c₃ c₄ c₅ = record {
   inside = record { across = omega arith; down = omega arith };
   columns = λ i q li lq.
-    let m : i * l .across ≡ i * f = ap (λ z. i * z) c₂ in
-    omega (arith, box-column (p .left) i (p .width) f q (l .at .width) li (omega arith) ew);
+      let m : i * l .across ≡ i * f = ap (λ z. i * z) c₂ in
+      omega (arith, box-column (p .left) i (p .width) f q (l .at .width) li (omega arith) ew);
   rows = λ j r lj lr.
-    let m : j * l .down ≡ j * g = ap (λ z. j * z) c₃ in
-    omega (arith, box-column (p .top) j (p .height) g r (l .at .height) lj (omega arith) eh);
+      let m : j * l .down ≡ j * g = ap (λ z. j * z) c₃ in
+      omega (arith, box-column (p .top) j (p .height) g r (l .at .height) lj (omega arith) eh);
   fair = let few : Few l = record {
     some = omega arith;
     any = omega arith;
@@ -147,8 +147,8 @@ frames-boxes l f g p f₁ f₂ g₁ g₂ el et ew eh c₀ c₁ c₂ c₃ c₄ c�
   } in record {
     few = few;
     lone = λ a b.
-      let m : p .width * f ≡ 1 * f = ap (λ z. z * f) a in
-      let n : p .height * g ≡ 1 * g = ap (λ z. z * g) b in
-      record { few = few; wide = omega arith; high = omega arith };
+        let m : p .width * f ≡ 1 * f = ap (λ z. z * f) a in
+        let n : p .height * g ≡ 1 * g = ap (λ z. z * g) b in
+        record { few = few; wide = omega arith; high = omega arith };
   };
 }

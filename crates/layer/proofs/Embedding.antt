@@ -113,6 +113,7 @@ module _ (x y : ℤ) (W H : ℕ) (p : Rect) where
       long (Some s) None ha hb h = omega (arith, hb .more, p .wide)
       long (Some s) (Some t) ha hb (inl e) = let z : _≡_ {A = ℕ} 0 1 = cc in absurd (omega arith)
       long (Some s) (Some t) ha hb (inr e) = let z : _≡_ {A = ℕ} 0 1 = cc in absurd (omega arith)
+
       needs : (a b : Option Spread) → Shows a b g → Spreads a (p .left) x (p .width) W → Spreads b (p .top) y (p .height) H → Needless (placing g) p → ⊥
       needs a b (inl e) ha hb idle = subst Ground (copy-near g _ _ e) (idle 0 0 (p .wide) (p .high))
       needs a b (inr e) ha hb idle =

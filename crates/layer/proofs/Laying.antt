@@ -51,39 +51,39 @@ same-spot r u v x y p q e =
 pub laid-one : (r : Rect) (x y : ℕ) (P : Marks) (t : List ℕ) (c k : ℕ) → Within r x y → k ≡ spot r x y → k < length t → P x y c → Laid r x y 1 1 P t (set t k c)
 laid-one r x y P t c k w e room p = record {
   inside = λ u v a.
-    let eu : x ≡ u = omega (arith, a .left, a .right) in
-    let ev : y ≡ v = omega (arith, a .top, a .bottom) in
-    let here : P x y (getD (set t k c) (spot r x y) 0) = subst (P x y) (sym (ap (λ z. getD (set t k c) z 0) (sym e) ∙ getD-set-same t k c 0 room)) p in
-    subst (λ (z : ℕ). P u z (getD (set t k c) (spot r u z) 0)) ev (subst (λ (z : ℕ). P z y (getD (set t k c) (spot r z y) 0)) eu here);
+      let eu : x ≡ u = omega (arith, a .left, a .right) in
+      let ev : y ≡ v = omega (arith, a .top, a .bottom) in
+      let here : P x y (getD (set t k c) (spot r x y) 0) = subst (P x y) (sym (ap (λ z. getD (set t k c) z 0) (sym e) ∙ getD-set-same t k c 0 room)) p in
+      subst (λ (z : ℕ). P u z (getD (set t k c) (spot r u z) 0)) ev (subst (λ (z : ℕ). P z y (getD (set t k c) (spot r z y) 0)) eu here);
   outside = λ u v i n.
-    let ne : spot r u v ≢ k = λ q. (let s = same-spot r u v x y i w (q ∙ e) in n (record { left = omega (arith, s .0); top = omega (arith, s .1); right = omega (arith, s .0); bottom = omega (arith, s .1) })) in
-    getD-set-other t k (spot r u v) c 0 ne;
+      let ne : spot r u v ≢ k = λ q. (let s = same-spot r u v x y i w (q ∙ e) in n (record { left = omega (arith, s .0); top = omega (arith, s .1); right = omega (arith, s .0); bottom = omega (arith, s .1) })) in
+      getD-set-other t k (spot r u v) c 0 ne;
 }
 
 pub laid-beside : (r : Rect) (x y a b h : ℕ) (P : Marks) (t₀ t₁ t₂ : List ℕ) → Held r x y (a + b) h → Laid r x y a h P t₀ t₁ → Laid r (x + a) y b h P t₁ t₂ → Laid r x y (a + b) h P t₀ t₂
 laid-beside r x y a b h P t₀ t₁ t₂ k one two = record {
   inside = λ u v i.
-    ⊎-elim
+      ⊎-elim
       (λ lt. subst (P u v) (sym (two .outside u v (held-within r x y (a + b) h u v k i) (λ j. omega (arith, j .left))))
-        (one .inside u v (record { left = i .left; top = i .top; right = lt; bottom = i .bottom })))
+      (one .inside u v (record { left = i .left; top = i .top; right = lt; bottom = i .bottom })))
       (λ ge. two .inside u v (record { left = ge; top = i .top; right = omega (arith, i .right); bottom = i .bottom }))
       (below-or u (x + a));
   outside = λ u v w n.
-    two .outside u v w (λ j. n (record { left = omega (arith, j .left); top = j .top; right = omega (arith, j .right); bottom = j .bottom }))
-    ∙ one .outside u v w (λ j. n (record { left = j .left; top = j .top; right = omega (arith, j .right); bottom = j .bottom }));
+      two .outside u v w (λ j. n (record { left = omega (arith, j .left); top = j .top; right = omega (arith, j .right); bottom = j .bottom }))
+      ∙ one .outside u v w (λ j. n (record { left = j .left; top = j .top; right = omega (arith, j .right); bottom = j .bottom }));
 }
 
 pub laid-above : (r : Rect) (x y w a b : ℕ) (P : Marks) (t₀ t₁ t₂ : List ℕ) → Held r x y w (a + b) → Laid r x y w a P t₀ t₁ → Laid r x (y + a) w b P t₁ t₂ → Laid r x y w (a + b) P t₀ t₂
 laid-above r x y w a b P t₀ t₁ t₂ k one two = record {
   inside = λ u v i.
-    ⊎-elim
+      ⊎-elim
       (λ lt. subst (P u v) (sym (two .outside u v (held-within r x y w (a + b) u v k i) (λ j. omega (arith, j .top))))
-        (one .inside u v (record { left = i .left; top = i .top; right = i .right; bottom = lt })))
+      (one .inside u v (record { left = i .left; top = i .top; right = i .right; bottom = lt })))
       (λ ge. two .inside u v (record { left = i .left; top = ge; right = i .right; bottom = omega (arith, i .bottom) }))
       (below-or v (y + a));
   outside = λ u v z n.
-    two .outside u v z (λ j. n (record { left = j .left; top = omega (arith, j .top); right = j .right; bottom = omega (arith, j .bottom) }))
-    ∙ one .outside u v z (λ j. n (record { left = j .left; top = j .top; right = j .right; bottom = omega (arith, j .bottom) }));
+      two .outside u v z (λ j. n (record { left = j .left; top = omega (arith, j .top); right = j .right; bottom = omega (arith, j .bottom) }))
+      ∙ one .outside u v z (λ j. n (record { left = j .left; top = j .top; right = j .right; bottom = omega (arith, j .bottom) }));
 }
 
 -- what is said of a part may be said in other words

@@ -49,13 +49,15 @@ covers l some wide high = record {
   inside = λ k h. spot-inside l 0 0 k;
   sooner = λ k j h lt. sooner k j h lt;
   onto = λ j h.
-    let w : 0 < l .at .width = l .at .wide in
-    let cj = mod-below j (l .at .width) w in
-    let rj = div-below j (l .at .width) (l .at .height) w (omega (arith, mul-comm (l .at .width) (l .at .height))) in
-    let q = j % l .at .width + l .before in
-    let r = j / l .at .width + l .above in
-    (r * l .columns + q, mul-add-lt r (l .columns) q (l .rows) (omega arith) (omega arith),
-        spot-at l 0 0 q r (omega arith) ∙ at (j % l .at .width) (j / l .at .width) cj rj ∙ div-add-mod' j (l .at .width));
+      let w : 0 < l .at .width = l .at .wide in
+      let cj = mod-below j (l .at .width) w in
+      let rj = div-below j (l .at .width) (l .at .height) w (omega (arith, mul-comm (l .at .width) (l .at .height))) in
+      let q = j % l .at .width + l .before in
+      let r = j / l .at .width + l .above in (
+        r * l .columns + q,
+        mul-add-lt r (l .columns) q (l .rows) (omega arith) (omega arith),
+        spot-at l 0 0 q r (omega arith) ∙ at (j % l .at .width) (j / l .at .width) cj rj ∙ div-add-mod' j (l .at .width),
+      );
 }
   where
     at : (a b : ℕ) → a < l .at .width → b < l .at .height → lensRow l 0 (b + l .above) * l .at .width + lensColumn l 0 (a + l .before) ≡ b * l .at .width + a
@@ -63,13 +65,16 @@ covers l some wide high = record {
         let ec : lensColumn l 0 (a + l .before) ≡ a = omega arith in
         let er : lensRow l 0 (b + l .above) ≡ b = omega arith in
         ap (λ z. z * l .at .width + lensColumn l 0 (a + l .before)) er ∙ ap (λ z. b * l .at .width + z) ec
+
     order : (w a b c d : ℕ) → a * w + b < c * w + d → b < w → d < w → (a < c) ⊎ ((a ≡ c) × (b < d))
     order w a b c d h lb ld = ⊎-elim (λ lt. inl lt) (λ ge. ⊎-elim (λ gt. absurd (omega (arith, mul-le-mul-right w gt, add-mul c 1 w, one-mul w))) (λ eq. inr (eq, omega (arith, ap (λ z. z * w) eq))) (same-or a c ge)) (below-or a c)
       where
         below-or : (a c : ℕ) → (a < c) ⊎ (c ≤ a)
         below-or a c = search needs
+
         same-or : (a c : ℕ) → c ≤ a → (c + 1 ≤ a) ⊎ (a ≡ c)
         same-or a c h = search needs
+
     sooner : (k j : ℕ) → k < l .columns * l .rows → j < lensSpot l 0 0 k → (i : ℕ) × (i < k) × (lensSpot l 0 0 i ≡ j)
     sooner k j h lt =
         let w : 0 < l .at .width = l .at .wide in
@@ -82,16 +87,20 @@ covers l some wide high = record {
         let kd : k / l .columns * l .columns + k % l .columns ≡ k = div-add-mod' k (l .columns) in
         let kq : k % l .columns < l .columns = mod-below k (l .columns) some in
         ⊎-elim
-          (λ up.
-            let r : b + l .above + 1 ≤ k / l .columns = omega arith in
-            ((b + l .above) * l .columns + (a + l .before), omega (arith, mul-le-mul-right (l .columns) r, add-mul (b + l .above) 1 (l .columns), one-mul (l .columns)),
-                spot-at l 0 0 (a + l .before) (b + l .above) (omega arith) ∙ at a b la lb ∙ s))
-          (λ on.
-            let ec : lensColumn l 0 (a + l .before) ≡ a = omega arith in
-            (k / l .columns * l .columns + (a + l .before), omega (arith, on .1),
-                spot-at l 0 0 (a + l .before) (k / l .columns) (omega arith)
-                ∙ ap (λ z. z * l .at .width + lensColumn l 0 (a + l .before)) (sym (on .0)) ∙ ap (λ z. b * l .at .width + z) ec ∙ s))
-          (order (l .at .width) b a (lensRow l 0 (k / l .columns)) (lensColumn l 0 (k % l .columns)) (omega arith) la (column-inside l 0 (k % l .columns)))
+        (λ up.
+        let r : b + l .above + 1 ≤ k / l .columns = omega arith in (
+          (b + l .above) * l .columns + (a + l .before),
+          omega (arith, mul-le-mul-right (l .columns) r, add-mul (b + l .above) 1 (l .columns), one-mul (l .columns)),
+          spot-at l 0 0 (a + l .before) (b + l .above) (omega arith) ∙ at a b la lb ∙ s,
+        ))
+        (λ on.
+        let ec : lensColumn l 0 (a + l .before) ≡ a = omega arith in (
+          k / l .columns * l .columns + (a + l .before),
+          omega (arith, on .1),
+          spot-at l 0 0 (a + l .before) (k / l .columns) (omega arith)
+              ∙ ap (λ z. z * l .at .width + lensColumn l 0 (a + l .before)) (sym (on .0)) ∙ ap (λ z. b * l .at .width + z) ec ∙ s,
+        ))
+        (order (l .at .width) b a (lensRow l 0 (k / l .columns)) (lensColumn l 0 (k % l .columns)) (omega arith) la (column-inside l 0 (k % l .columns)))
 
 module _ {K S : Type 0} (o : Ops K S) (b : Image K) where
   -- the k-th tap of a window is a place of the region

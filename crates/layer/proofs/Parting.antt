@@ -57,11 +57,11 @@ module _ {K S : Type 0} (o : Ops K S) (b : Image K) where
   shows-drawn s z r p P t₀ t₁ h e l =
       laid-as r (p .left) (p .top) (p .width) (p .height) P _ t₀ t₁
       (λ u v c a q.
-        let eu : p .left + (u - p .left) ≡ u = omega (arith, a .left) in
-        let ev : p .top + (v - p .top) ≡ v = omega (arith, a .top) in
-        ap (λ f. coded o (taken o (b .maxval) (b .at) f)) (sym (stood b s z _ _ u v h eu ev))
-        ∙ e (u - p .left) (v - p .top) c (omega (arith, a .left, a .right)) (omega (arith, a .top, a .bottom))
-        (subst (λ (k : ℕ). P (p .left + (u - p .left)) k c) (sym ev) (subst (λ (k : ℕ). P k v c) (sym eu) q))) l
+      let eu : p .left + (u - p .left) ≡ u = omega (arith, a .left) in
+      let ev : p .top + (v - p .top) ≡ v = omega (arith, a .top) in
+      ap (λ f. coded o (taken o (b .maxval) (b .at) f)) (sym (stood b s z _ _ u v h eu ev))
+      ∙ e (u - p .left) (v - p .top) c (omega (arith, a .left, a .right)) (omega (arith, a .top, a .bottom))
+      (subst (λ (k : ℕ). P (p .left + (u - p .left)) k c) (sym ev) (subst (λ (k : ℕ). P k v c) (sym eu) q))) l
 
   pub coded-carried : (c : Carry) (codes : List ℕ) (i j : ℕ) (φ : Formula) → Shown o (nth b (c .at)) (area (c .at)) codes → Carried c i j φ → coded o (taken o (b .maxval) (b .at) φ) ≡ Some (getD codes (walked c i j) 0)
   coded-carried c codes i j φ s m = let p = carried-place o b c i j φ m in ap (coded o) (p .0) ∙ s (walked c i j) (p .1)

@@ -43,16 +43,18 @@ module _ {K S : Type 0} (o : Ops K S) (b : Image K) (r : Rect) where
   pub served-pieces : (t₀ t₁ : List ℕ) → r .left + r .width ≤ b .width → r .top + r .height ≤ b .height → area r ≤ length t₀ → length t₁ ≡ length t₀ → Shows o b r r t₀ t₁ → drop (area r) t₁ ≡ drop (area r) t₀
       → (done ≡ answer b r (length t₀)) × (t₁ ≡ filled o b r t₀)
   served-pieces t₀ t₁ x y z len l d =
-      let s = shown-whole t₀ t₁ l in
-      (sym (answer-is b r (length t₀) x y z ∙ ap holed (shown-clean o (nth b r) (area r) t₁ s)),
-      whole o (nth b r) (area r) t₀ t₁ (omega arith) s d ∙ sym (filled-is o b r t₀ x y z))
+      let s = shown-whole t₀ t₁ l in (
+        sym (answer-is b r (length t₀) x y z ∙ ap holed (shown-clean o (nth b r) (area r) t₁ s)),
+        whole o (nth b r) (area r) t₀ t₁ (omega arith) s d ∙ sym (filled-is o b r t₀ x y z),
+      )
 
   -- by rows, after a piece met a hole
   pub served-rows : (a : Image K) (x : Outcome) (t₀ t₁ t₂ : List ℕ) → r .left + r .width ≤ b .width → r .top + r .height ≤ b .height → area r ≤ length t₀ → length t₁ ≡ length t₀ → b ≡ a → drop (area r) t₁ ≡ drop (area r) t₀
       → x ≡ answer a r (length t₁) → t₂ ≡ filled o a r t₁ → (x ≡ answer b r (length t₀)) × (t₂ ≡ filled o b r t₀)
-  served-rows a x t₀ t₁ t₂ w h z len e d p q =
-      (p ∙ ap (λ i. answer i r (length t₁)) (sym e) ∙ ap (answer b r) len,
-      q ∙ ap (λ i. filled o i r t₁) (sym e) ∙ filled-is o b r t₁ w h (omega arith) ∙ put-rest (firstFault (nth b r) (area r)) (λ k. codeAt o (nth b r k)) (area r) t₀ t₁ d ∙ sym (filled-is o b r t₀ w h z))
+  served-rows a x t₀ t₁ t₂ w h z len e d p q = (
+    p ∙ ap (λ i. answer i r (length t₁)) (sym e) ∙ ap (answer b r) len,
+    q ∙ ap (λ i. filled o i r t₁) (sym e) ∙ filled-is o b r t₁ w h (omega arith) ∙ put-rest (firstFault (nth b r) (area r)) (λ k. codeAt o (nth b r k)) (area r) t₀ t₁ d ∙ sym (filled-is o b r t₀ w h z),
+  )
 
 -- a hole is told by 12 alone
 pub holed-not : (x : Option Fault) (n : ℕ) → n < 12 → holed x ≡ refused n [] → ⊥

@@ -64,20 +64,22 @@ module _ {K : Type 0} (b : Image K) (a n : ℕ) (tap : ℕ → Tap) (t : Ordered
   later : (i : ℕ) (f : Fault) → i < n → tapped (b .at) tap i ≡ hole f → NoLater (tap at .column) (tap at .row) (tap i .column) (tap i .row)
   later i f l h =
       ⊎-elim
-        (λ lt. absurd (not-clean _ f h (w .earlier i lt)))
-        (λ ge.
-          let up : t .down (at / a) ≤ t .down (i / a) = t .downwards (at / a) (i / a) (le-div (at / a) i a (t .some) (omega (arith, div-mul-le-self at a))) in
-          ⊎-elim
-            (λ lt. inl (omega (arith, t .rows at, t .rows i)))
-            (λ le.
-              let same : t .down (i / a) ≡ t .down (at / a) = omega arith in
-              inr (omega (arith, t .rows at, t .rows i),
-                ⊎-elim
-                  (λ lt. absurd (not-clean _ f (raised i same ∙ h) (w .earlier (at / a * a + i % a) (omega (arith, div-add-mod' at a)))))
-                  (λ le′. omega (arith, t .columns at, t .columns i, t .rightwards (at % a) (i % a) le′))
-                  (below-or (i % a) (at % a))))
-            (below-or (t .down (at / a)) (t .down (i / a))))
-        (below-or i at)
+      (λ lt. absurd (not-clean _ f h (w .earlier i lt)))
+      (λ ge.
+      let up : t .down (at / a) ≤ t .down (i / a) = t .downwards (at / a) (i / a) (le-div (at / a) i a (t .some) (omega (arith, div-mul-le-self at a))) in
+      ⊎-elim
+      (λ lt. inl (omega (arith, t .rows at, t .rows i)))
+      (λ le.
+      let same : t .down (i / a) ≡ t .down (at / a) = omega arith in
+      inr (
+        omega (arith, t .rows at, t .rows i),
+        ⊎-elim
+            (λ lt. absurd (not-clean _ f (raised i same ∙ h) (w .earlier (at / a * a + i % a) (omega (arith, div-add-mod' at a)))))
+            (λ le′. omega (arith, t .columns at, t .columns i, t .rightwards (at % a) (i % a) le′))
+            (below-or (i % a) (at % a)),
+      ))
+      (below-or (t .down (at / a)) (t .down (i / a))))
+      (below-or i at)
 
 unless-hole : {K : Type 0} (x : Option Fault) (p : K) (e : Fault) → unless x p ≡ hole e → x ≡ Some e
 unless-hole None p e h = cc
@@ -96,9 +98,9 @@ module _ {K S : Type 0} (o : Ops K S) where
         named = (w .index, w .below, refl, refl);
         here = place-hole _ e (w .here);
         first = λ x y m f g.
-          subst (λ z. NoLater (tap (w .index) .column) (tap (w .index) .row) z y) (m .2)
-          (subst (λ z. NoLater (tap (w .index) .column) (tap (w .index) .row) (tap (m .0) .column) z) (m .3)
-          (later b a n tap t e w (m .0) f (m .1) (ap (λ z. b .at z (tap (m .0) .row)) (m .2) ∙ ap (λ z. b .at x z) (m .3) ∙ g)));
+            subst (λ z. NoLater (tap (w .index) .column) (tap (w .index) .row) z y) (m .2)
+            (subst (λ z. NoLater (tap (w .index) .column) (tap (w .index) .row) (tap (m .0) .column) z) (m .3)
+            (later b a n tap t e w (m .0) f (m .1) (ap (λ z. b .at z (tap (m .0) .row)) (m .2) ∙ ap (λ z. b .at x z) (m .3) ∙ g)));
       }
 
   embedded-first : (b : Image K) (g : declared.Ground) (x y : ℤ) (e : Fault) (c : Bool)

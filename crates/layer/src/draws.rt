@@ -87,14 +87,7 @@ pub(crate) impl<K: Kind, W: Weights> Draw for Blended<K, W> as BlendedDraw {
 }
 
 /// Writes row `j` of a part into its places of the rectangle's buffer.
-fn lay_row<D: Draw>(
-    draw: &D,
-    codes: &[u64],
-    rect: Rect,
-    part: Rect,
-    j: u32,
-    buffer: &mut [u64],
-)
+fn lay_row<D: Draw>(draw: &D, codes: &[u64], rect: Rect, part: Rect, j: u32, buffer: &mut [u64])
     requires part { ⌜ Part rect part ⌝ }
     requires row { ⌜ j < part .height ⌝ }
     requires can { ⌜ ((i : ℕ) → i < part .width → D·Draw .can (now draw) (now codes) i j) ⌝ }
@@ -110,13 +103,7 @@ fn lay_row<D: Draw>(
 }
 
 /// Writes a part into its places of the rectangle's buffer.
-pub(crate) fn lay<D: Draw>(
-    draw: &D,
-    codes: &[u64],
-    rect: Rect,
-    part: Rect,
-    buffer: &mut [u64],
-)
+pub(crate) fn lay<D: Draw>(draw: &D, codes: &[u64], rect: Rect, part: Rect, buffer: &mut [u64])
     requires part { ⌜ Part rect part ⌝ }
     requires can { ⌜ ((i j : ℕ) → i < part .width → j < part .height → D·Draw .can (now draw) (now codes) i j) ⌝ }
     requires room { ⌜ area rect ≤ length (now buffer) ⌝ }

@@ -20,7 +20,7 @@ returns-in-Some-Some c =
     let fy : SFits w32 (c .args .y) = search needs in
     let sh : Shows (c .args .x) (c .args .y) W H p (Some (c .in-Some-Some .a)) (Some (c .in-Some-Some .b)) (c .args .ground) =
     elim (c .if-is-beside .came) [
-        then-is-beside·in-Copy w ↦ inl (w .in-Copy .is)
+      | then-is-beside·in-Copy w ↦ inl (w .in-Copy .is)
       | else-is-beside·else-is-beside-2 w ↦ inr (ap beside (sym (c .in-Some-Some .is-0)) ∙ sym (c .is-beside .ensures) ∙ w .if-is-beside .left, ap beside (sym (c .in-Some-Some .is-1)) ∙ sym (w .is-beside-else-is-beside .ensures) ∙ w .if-is-beside-2 .left)
     ] in
     is-copy (c .args .x) (c .args .y) W H p (c .in-Some-Some .a) (c .in-Some-Some .b) _ (c .args .ground) sh
@@ -37,7 +37,7 @@ returns-in-None-rest c =
     let fy : SFits w32 (c .args .y) = search needs in
     let sh : Shows (c .args .x) (c .args .y) W H p (c .spread-across .result) (c .spread-down .result) (c .args .ground) =
     elim (c .if-is-beside .came) [
-        then-is-beside·in-Copy w ↦ inl (w .in-Copy .is)
+      | then-is-beside·in-Copy w ↦ inl (w .in-Copy .is)
       | else-is-beside·else-is-beside-2 w ↦ inr (sym (c .is-beside .ensures) ∙ w .if-is-beside .left, sym (w .is-beside-else-is-beside .ensures) ∙ w .if-is-beside-2 .left)
     ] in
     is-edge (c .args .x) (c .args .y) W H p (c .spread-across .result) (c .spread-down .result) (c .args .ground) sh
@@ -53,7 +53,7 @@ returns-in-rest-None c =
     let fy : SFits w32 (c .args .y) = search needs in
     let sh : Shows (c .args .x) (c .args .y) W H p (c .spread-across .result) (c .spread-down .result) (c .args .ground) =
     elim (c .if-is-beside .came) [
-        then-is-beside·in-Copy w ↦ inl (w .in-Copy .is)
+      | then-is-beside·in-Copy w ↦ inl (w .in-Copy .is)
       | else-is-beside·else-is-beside-2 w ↦ inr (sym (c .is-beside .ensures) ∙ w .if-is-beside .left, sym (w .is-beside-else-is-beside .ensures) ∙ w .if-is-beside-2 .left)
     ] in
     is-edge (c .args .x) (c .args .y) W H p (c .spread-across .result) (c .spread-down .result) (c .args .ground) sh

@@ -57,9 +57,9 @@ returns-in-Ok g c =
     let s = summed o (lensPixel o (c .ask .last .codes) l 0 0) w (l .columns * l .rows) in
     record {
       answer = λ φ m.
-        ap Ok (c .code .ensures ∙ ap (o .code) (c .mix-pixel .ensures
-        ∙ ap (λ z. o .finish s (c .args .scale) z (c .args .maxval)) (toZ-ofZ fits) ∙ ap (o .finish s (c .args .scale) (c .args .offset)) (c .pre .maxval)))
-        ∙ ap (located o) (sym (mixed-pixel o b (g .Pixel·Kind·met .decodes) l w (c .args .scale) (c .args .offset) (c .ask .last .codes) 0 0 φ (c .ask .ensures .shown (c .in-Ok .is)) m));
+          ap Ok (c .code .ensures ∙ ap (o .code) (c .mix-pixel .ensures
+          ∙ ap (λ z. o .finish s (c .args .scale) z (c .args .maxval)) (toZ-ofZ fits) ∙ ap (o .finish s (c .args .scale) (c .args .offset)) (c .pre .maxval)))
+          ∙ ap (located o) (sym (mixed-pixel o b (g .Pixel·Kind·met .decodes) l w (c .args .scale) (c .args .offset) (c .ask .last .codes) 0 0 φ (c .ask .ensures .shown (c .in-Ok .is)) m));
       keeps = c .ask .ensures .keeps;
       counts = c .ask .ensures .counts;
       sound = c .ask .ensures .sound;
@@ -73,8 +73,8 @@ returns-in-Err g c =
     let w = g .W·Weights .weighs (c .args .weights .now) in
     record {
       answer = λ φ m.
-        ap (located o) (sym (mixed-hole o b l w (c .args .scale) (c .args .offset) (c .in-Err .fault) φ m (c .pre .lens .few .some) (c .pre .lens .wide) (c .pre .lens .high)
-        (fault-of-err _ (c .in-Err .fault) (c .in-Err .ensures tt .answer))));
+          ap (located o) (sym (mixed-hole o b l w (c .args .scale) (c .args .offset) (c .in-Err .fault) φ m (c .pre .lens .few .some) (c .pre .lens .wide) (c .pre .lens .high)
+          (fault-of-err _ (c .in-Err .fault) (c .in-Err .ensures tt .answer))));
       keeps = c .ask .ensures .keeps;
       counts = c .ask .ensures .counts;
       sound = c .ask .ensures .sound;

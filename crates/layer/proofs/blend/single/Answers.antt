@@ -15,7 +15,7 @@ returns-in-Ok g c =
     let b = g .P·Picture .model (c .args .below .now) .shown in
     record {
       answer = λ φ m. let p = carried-place o b (c .args .carry) 0 0 φ m in
-        single-shown o b (c .args .carry .at) _ _ (c .pre .one) (p .1) (c .ask .ensures .shown (c .in-Ok .is)) ∙ ap (located o) (sym (p .0));
+          single-shown o b (c .args .carry .at) _ _ (c .pre .one) (p .1) (c .ask .ensures .shown (c .in-Ok .is)) ∙ ap (located o) (sym (p .0));
       keeps = c .ask .ensures .keeps;
       counts = c .ask .ensures .counts;
       sound = c .ask .ensures .sound;
@@ -27,7 +27,7 @@ returns-in-Err g c =
     let b = g .P·Picture .model (c .args .below .now) .shown in
     record {
       answer = λ φ m. let p = carried-place o b (c .args .carry) 0 0 φ m in
-        single-hole o b (c .args .carry .at) _ _ (c .pre .one) (p .1) (c .in-Err .ensures tt .answer) ∙ ap (located o) (sym (p .0));
+          single-hole o b (c .args .carry .at) _ _ (c .pre .one) (p .1) (c .in-Err .ensures tt .answer) ∙ ap (located o) (sym (p .0));
       keeps = c .ask .ensures .keeps;
       counts = c .ask .ensures .counts;
       sound = c .ask .ensures .sound;

@@ -35,7 +35,8 @@ loop-i-again g c =
     let d = g .D·Draw .drawn (c .args .draw .now) (c .args .codes .now) in
     let ei : i ≡ p .left + i - p .left = omega arith in
     let ej : j ≡ p .top + j - p .top = omega arith in
-    let q : c .draw .result ≡ d (p .left + i - p .left) (p .top + j - p .top) = c .draw .ensures ∙ ap (λ a. d a j) ei ∙ ap (d (p .left + i - p .left)) ej in
-    (laid-beside _ _ _ _ 1 _ _ _ _ _ (record { left = k .left; top = omega (arith, k .top); right = omega (arith, k .right); bottom = omega (arith, k .bottom, c .pre .row) }) (c .loop-i .inv .0)
-        (laid-one r (p .left + i) (p .top + j) _ _ _ at w e (omega (arith, c .pre .room)) q),
-    drop-set-lt (area r) (c .loop-i .buffer) at _ lt ∙ c .loop-i .inv .1)
+    let q : c .draw .result ≡ d (p .left + i - p .left) (p .top + j - p .top) = c .draw .ensures ∙ ap (λ a. d a j) ei ∙ ap (d (p .left + i - p .left)) ej in (
+      laid-beside _ _ _ _ 1 _ _ _ _ _ (record { left = k .left; top = omega (arith, k .top); right = omega (arith, k .right); bottom = omega (arith, k .bottom, c .pre .row) }) (c .loop-i .inv .0)
+          (laid-one r (p .left + i) (p .top + j) _ _ _ at w e (omega (arith, c .pre .room)) q),
+      drop-set-lt (area r) (c .loop-i .buffer) at _ lt ∙ c .loop-i .inv .1,
+    )

@@ -43,10 +43,12 @@ more-sum-requires g c κs =
     let e = toZ-ofZ f ∙ c .weight .ensures in
     let room = c .pre .room in
     record {
-      room = (room .0 + c .loop-r .r,
-          subst (λ s. g .K·Kind .held s (room .0 + c .loop-r .r)) (sym (c .loop-r .inv))
-              (held-down o (g .K·Kind .held) (g .K·Kind·met .grown) p w (c .pre .light) (c .args .lens .columns) (c .args .q) (c .args .sum) (room .0) (c .loop-r .r) (room .1)),
-          omega (arith, room .2));
+      room = (
+        room .0 + c .loop-r .r,
+        subst (λ s. g .K·Kind .held s (room .0 + c .loop-r .r)) (sym (c .loop-r .inv))
+            (held-down o (g .K·Kind .held) (g .K·Kind·met .grown) p w (c .pre .light) (c .args .lens .columns) (c .args .q) (c .args .sum) (room .0) (c .loop-r .r) (room .1)),
+        omega (arith, room .2),
+      );
       light = omega (arith, ap natAbs e, c .pre .light (c .loop-r .r * c .args .lens .columns + c .args .q));
     }
 

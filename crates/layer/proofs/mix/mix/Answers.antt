@@ -22,10 +22,12 @@ add-column-sum-requires g c κs =
       can = c .pre .can;
       inside = c .loop-q-test .taken;
       light = c .pre .light;
-      room = (c .loop-q .q * l .rows,
-          subst (λ s. g .K·Kind .held s (c .loop-q .q * l .rows)) (sym (c .loop-q .inv))
-              (held-columns o (g .K·Kind .held) (g .K·Kind·met .grown) p w (c .pre .light) (g .K·Kind·met .begun) (l .columns) (l .rows) (c .loop-q .q)),
-          row-end (c .loop-q .q) (l .rows) (l .columns) 4096 (c .loop-q-test .taken) (omega (arith, mul-comm (l .rows) (l .columns), c .pre .can .few .few)));
+      room = (
+        c .loop-q .q * l .rows,
+        subst (λ s. g .K·Kind .held s (c .loop-q .q * l .rows)) (sym (c .loop-q .inv))
+            (held-columns o (g .K·Kind .held) (g .K·Kind·met .grown) p w (c .pre .light) (g .K·Kind·met .begun) (l .columns) (l .rows) (c .loop-q .q)),
+        row-end (c .loop-q .q) (l .rows) (l .columns) 4096 (c .loop-q-test .taken) (omega (arith, mul-comm (l .rows) (l .columns), c .pre .can .few .few)),
+      );
     }
 
 pub finish-requires : need.finish-requires
@@ -36,10 +38,12 @@ finish-requires g c κs =
     let p = lensPixel o (c .args .codes .now) l (c .args .i) (c .args .j) in
     let q : c .loop-q .q ≡ l .columns = omega arith in
     record {
-      room = (c .loop-q .q * l .rows,
-          subst (λ s. g .K·Kind .held s (c .loop-q .q * l .rows)) (sym (c .loop-q .inv))
-              (held-columns o (g .K·Kind .held) (g .K·Kind·met .grown) p w (c .pre .light) (g .K·Kind·met .begun) (l .columns) (l .rows) (c .loop-q .q)),
-          omega (arith, ap (λ z. z * l .rows) q, c .pre .can .few .few));
+      room = (
+        c .loop-q .q * l .rows,
+        subst (λ s. g .K·Kind .held s (c .loop-q .q * l .rows)) (sym (c .loop-q .inv))
+            (held-columns o (g .K·Kind .held) (g .K·Kind·met .grown) p w (c .pre .light) (g .K·Kind·met .begun) (l .columns) (l .rows) (c .loop-q .q)),
+        omega (arith, ap (λ z. z * l .rows) q, c .pre .can .few .few),
+      );
       scale = c .pre .scale;
     }
 

@@ -24,6 +24,6 @@ pub returns-else-start-side : need.returns-else-start-side
 returns-else-start-side c =
     parted-at (c .args .from) (c .args .offset) (c .args .count) (c .args .side) (omega (arith, ints)) (omega (arith, ints))
     (λ z. elim (c .else-start-ge0 .came) [
-        else-start-ge0·by·then-start-ge0·else-end-side w ↦ omega (arith, ints)
+      | else-start-ge0·by·then-start-ge0·else-end-side w ↦ omega (arith, ints)
       | else-start-ge0·by·else-start-ge0 w ↦ absurd (omega (arith, ints))
     ]) (c .pre .some .1)

@@ -42,11 +42,11 @@ returns-then-tile g t c =
       kept = kept-follows o model count (c .args .self .now) (c .tile .last .self) (c .tile-then-tile .last .self) k (c .tile-then-tile .ensures .kept);
       sound = c .tile-then-tile .ensures .sound;
       quiet = λ m.
-        let a : Part p (c .rect-near .result) = record { left = omega (arith, n .left); top = omega (arith, n .top); right = omega (arith, n .left, n .width); bottom = omega (arith, n .top, n .height) } in
-        let b : Part p (c .rect-far .result) = record { left = omega (arith, f .left); top = omega (arith, f .top); right = omega (arith, f .left, f .width); bottom = omega (arith, f .top, f .height) } in
-        let x = c .tile .ensures .quiet (needless-part (formula (c .args .self .now .step) (c .args .self .now .size .width) (c .args .self .now .size .height)) p (c .rect-near .result) a m) in
-        let y = c .tile-then-tile .ensures .quiet (needless-kept o model count (c .args .self .now) (c .tile .last .self) (c .rect-far .result) k (needless-part (formula (c .args .self .now .step) (c .args .self .now .size .width) (c .args .self .now .size .height)) p (c .rect-far .result) b m)) in
-        (y .0, y .1 ∙ x .1);
+          let a : Part p (c .rect-near .result) = record { left = omega (arith, n .left); top = omega (arith, n .top); right = omega (arith, n .left, n .width); bottom = omega (arith, n .top, n .height) } in
+          let b : Part p (c .rect-far .result) = record { left = omega (arith, f .left); top = omega (arith, f .top); right = omega (arith, f .left, f .width); bottom = omega (arith, f .top, f .height) } in
+          let x = c .tile .ensures .quiet (needless-part (formula (c .args .self .now .step) (c .args .self .now .size .width) (c .args .self .now .size .height)) p (c .rect-near .result) a m) in
+          let y = c .tile-then-tile .ensures .quiet (needless-kept o model count (c .args .self .now) (c .tile .last .self) (c .rect-far .result) k (needless-part (formula (c .args .self .now .step) (c .args .self .now .size .width) (c .args .self .now .size .height)) p (c .rect-far .result) b m)) in
+          (y .0, y .1 ∙ x .1);
     }
 
 pub returns-then-tile-2 : need.returns-then-tile-2
@@ -68,9 +68,9 @@ returns-then-tile-2 g t c =
       kept = kept-follows o model count (c .args .self .now) (c .tile-in-Down .last .self) (c .tile-then-tile-2 .last .self) k (c .tile-then-tile-2 .ensures .kept);
       sound = c .tile-then-tile-2 .ensures .sound;
       quiet = λ m.
-        let a : Part p (c .rect-upper .result) = record { left = omega (arith, n .left); top = omega (arith, n .top); right = omega (arith, n .left, n .width); bottom = omega (arith, n .top, n .height) } in
-        let b : Part p (c .rect-lower .result) = record { left = omega (arith, f .left); top = omega (arith, f .top); right = omega (arith, f .left, f .width); bottom = omega (arith, f .top, f .height) } in
-        let x = c .tile-in-Down .ensures .quiet (needless-part (formula (c .args .self .now .step) (c .args .self .now .size .width) (c .args .self .now .size .height)) p (c .rect-upper .result) a m) in
-        let y = c .tile-then-tile-2 .ensures .quiet (needless-kept o model count (c .args .self .now) (c .tile-in-Down .last .self) (c .rect-lower .result) k (needless-part (formula (c .args .self .now .step) (c .args .self .now .size .width) (c .args .self .now .size .height)) p (c .rect-lower .result) b m)) in
-        (y .0, y .1 ∙ x .1);
+          let a : Part p (c .rect-upper .result) = record { left = omega (arith, n .left); top = omega (arith, n .top); right = omega (arith, n .left, n .width); bottom = omega (arith, n .top, n .height) } in
+          let b : Part p (c .rect-lower .result) = record { left = omega (arith, f .left); top = omega (arith, f .top); right = omega (arith, f .left, f .width); bottom = omega (arith, f .top, f .height) } in
+          let x = c .tile-in-Down .ensures .quiet (needless-part (formula (c .args .self .now .step) (c .args .self .now .size .width) (c .args .self .now .size .height)) p (c .rect-upper .result) a m) in
+          let y = c .tile-then-tile-2 .ensures .quiet (needless-kept o model count (c .args .self .now) (c .tile-in-Down .last .self) (c .rect-lower .result) k (needless-part (formula (c .args .self .now .step) (c .args .self .now .size .width) (c .args .self .now .size .height)) p (c .rect-lower .result) b m)) in
+          (y .0, y .1 ∙ x .1);
     }

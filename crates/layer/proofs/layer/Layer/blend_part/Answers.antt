@@ -37,8 +37,8 @@ returns g c =
     let fits : SFits w32 (c .args .offset) = search needs in
     record {
       laid = λ z. let d = c .draw-part .ensures .laid z in
-        laid-as (c .args .rect) (p .left) (p .top) (p .width) (p .height) _ _ _ _
-        (λ u v k a q φ m.
+          laid-as (c .args .rect) (p .left) (p .top) (p .width) (p .height) _ _ _ _
+          (λ u v k a q φ m.
           coded-mixed o b (g .Pixel·Kind·met .decodes) n w (c .args .scale) (c .args .offset) (d .0) (u - p .left) (v - p .top) φ (d .1) m
           ∙ ap (λ x. Some (o .code (o .finish (summed o (lensPixel o (d .0) n (u - p .left) (v - p .top)) w (n .columns * n .rows)) (c .args .scale) (c .args .offset) x))) (sym (c .pre .sound .1 .maxval))
           ∙ ap (λ x. Some (o .code (o .finish (summed o (lensPixel o (d .0) n (u - p .left) (v - p .top)) w (n .columns * n .rows)) (c .args .scale) x (l .size .maxval)))) (sym (toZ-ofZ fits))

@@ -39,8 +39,8 @@ draw-part-requires g c κs =
       inside = stood-inside b (l .step) (l .size) (c .in-Copy .carry .at) (c .pre .sound .1) (a .0);
       part = c .pre .part;
       can = λ codes h s i j li lj.
-        let k = can-carry (g .Pixel·Kind .ops) b (c .in-Copy .carry) codes i j _ (a .1 i j li lj) h in
-        (a .3, omega (arith, p .across), omega (arith, p .down), k .0, k .1, k .2);
+          let k = can-carry (g .Pixel·Kind .ops) b (c .in-Copy .carry) codes i j _ (a .1 i j li lj) h in
+          (a .3, omega (arith, p .across), omega (arith, p .down), k .0, k .1, k .2);
       room = c .pre .room;
     }
 
@@ -77,7 +77,7 @@ returns-in-Black g c =
     let b = g .P·Picture .model (l .below) .shown in
     record {
       laid = λ z. shows-drawn o b (l .step) (l .size) (c .args .rect) (c .args .part) _ _ _ (c .pre .sound .1)
-        (λ i j k li lj q. ap (λ f. coded o (taken o (b .maxval) (b .at) f)) (c .in-Black .ensures tt i j li lj) ∙ ap Some (sym (q ∙ c .code .ensures ∙ ap (o .code) (c .black-pixel .ensures)))) (c .lay .ensures .laid);
+          (λ i j k li lj q. ap (λ f. coded o (taken o (b .maxval) (b .at) f)) (c .in-Black .ensures tt i j li lj) ∙ ap Some (sym (q ∙ c .code .ensures ∙ ap (o .code) (c .black-pixel .ensures)))) (c .lay .ensures .laid);
       spared = λ z. let n : _≡_ {A = ℕ} 0 1 = cc in absurd (omega arith);
       rest = c .lay .ensures .rest;
       kept = kept-none o (g .P·Picture .model) (g .P·Picture .count) _ _ refl refl refl refl;
@@ -92,8 +92,8 @@ returns-in-White g c =
     let b = g .P·Picture .model (l .below) .shown in
     record {
       laid = λ z. shows-drawn o b (l .step) (l .size) (c .args .rect) (c .args .part) _ _ _ (c .pre .sound .1)
-        (λ i j k li lj q. ap (λ f. coded o (taken o (b .maxval) (b .at) f)) (c .in-White .ensures tt i j li lj)
-        ∙ ap Some (sym (q ∙ c .code-in-White .ensures ∙ ap (o .code) (c .white-pixel .ensures ∙ ap (o .white) (c .pre .sound .1 .maxval))))) (c .lay-in-White .ensures .laid);
+          (λ i j k li lj q. ap (λ f. coded o (taken o (b .maxval) (b .at) f)) (c .in-White .ensures tt i j li lj)
+          ∙ ap Some (sym (q ∙ c .code-in-White .ensures ∙ ap (o .code) (c .white-pixel .ensures ∙ ap (o .white) (c .pre .sound .1 .maxval))))) (c .lay-in-White .ensures .laid);
       spared = λ z. let n : _≡_ {A = ℕ} 0 1 = cc in absurd (omega arith);
       rest = c .lay-in-White .ensures .rest;
       kept = kept-none o (g .P·Picture .model) (g .P·Picture .count) _ _ refl refl refl refl;
@@ -110,8 +110,8 @@ returns-in-Copy g c =
     let a = c .in-Copy .ensures tt in
     record {
       laid = λ z. let d = c .draw-part .ensures .laid z in
-        shows-drawn o b (l .step) (l .size) (c .args .rect) p _ _ _ (c .pre .sound .1)
-        (λ i j k li lj q.
+          shows-drawn o b (l .step) (l .size) (c .args .rect) p _ _ _ (c .pre .sound .1)
+          (λ i j k li lj q.
           let ei : i ≡ p .left + i - p .left = omega arith in
           let ej : j ≡ p .top + j - p .top = omega arith in
           coded-carried o b (c .in-Copy .carry) (d .0) i j _ (d .1) (a .1 i j li lj)
@@ -133,7 +133,7 @@ returns-in-Mean g c =
     let a = c .in-Mean .ensures tt in
     record {
       laid = λ z. shows-drawn o b (l .step) (l .size) (c .args .rect) p _ _ _ (c .pre .sound .1)
-        (λ i j k li lj q. q _ (mixed-at n ones (n .columns * n .rows) (pos 0) i j p _ (a .1 i j li lj))) (c .blend-part .ensures .laid z);
+          (λ i j k li lj q. q _ (mixed-at n ones (n .columns * n .rows) (pos 0) i j p _ (a .1 i j li lj))) (c .blend-part .ensures .laid z);
       spared = c .blend-part .ensures .spared;
       rest = c .blend-part .ensures .rest;
       kept = c .blend-part .ensures .kept;
@@ -154,7 +154,7 @@ returns-in-Masked g c =
     let fits : SFits w32 (s .offset) = search needs in
     record {
       laid = λ z. shows-drawn o b (l .step) (l .size) (c .args .rect) p _ _ _ (c .pre .sound .1)
-        (λ i j k li lj q. q _ (mixed-at n (λ k. getD (s .weights) k (pos 0)) (s .scale) _ i j p _
+          (λ i j k li lj q. q _ (mixed-at n (λ k. getD (s .weights) k (pos 0)) (s .scale) _ i j p _
           (mixed-as n (weightsOf m) (λ k. getD (s .weights) k (pos 0)) (kernel m .scale) (s .scale) (kernel m .offset) _ i j _ (λ k. ap (λ x. getD x k (pos 0)) (sym (c .of-mask-mask .ensures .weights)))
           (sym (c .of-mask-mask .ensures .scale)) (sym (c .of-mask-mask .ensures .offset) ∙ sym (toZ-ofZ fits)) (a .1 i j li lj)))) (c .blend-part-in-Masked .ensures .laid z);
       spared = c .blend-part-in-Masked .ensures .spared;

@@ -111,7 +111,7 @@ returns-in-Masked g c =
     record {
       answer = c .blend-in-Masked .ensures .answer (formula (l .step) (l .size .width) (l .size .height) (p .left + 0) (p .top + 0))
           (mixed-as (c .in-Masked .lens) (weightsOf m) (λ k. getD (s .weights) k (pos 0)) (kernel m .scale) (s .scale) (kernel m .offset) _ 0 0 _ (λ k. ap (λ z. getD z k (pos 0)) (sym (c .of-mask-mask .ensures .weights)))
-              (sym (c .of-mask-mask .ensures .scale)) (sym (c .of-mask-mask .ensures .offset) ∙ sym (toZ-ofZ fits)) (c .in-Masked .ensures tt .1 0 0 (p .wide) (p .high)))
+          (sym (c .of-mask-mask .ensures .scale)) (sym (c .of-mask-mask .ensures .offset) ∙ sym (toZ-ofZ fits)) (c .in-Masked .ensures tt .1 0 0 (p .wide) (p .high)))
           ∙ ap (λ z. located o (taken o (b .maxval) (b .at) z)) (stood b (l .step) (l .size) _ _ (c .args .u) (c .args .v) (c .pre .sound .1) (omega (arith, c .rect .ensures .left)) (omega (arith, c .rect .ensures .top)));
       kept = kept-one o (g .P·Picture .model) (g .P·Picture .count) _ _ (c .blend-in-Masked .ensures .keeps) (c .blend-in-Masked .ensures .counts) refl refl refl;
       sound = (c .blend-in-Masked .ensures .sound, stood-still b (l .step) (l .size) _ (ap (λ z. z .shown) (c .blend-in-Masked .ensures .keeps)) (c .pre .sound .1));

@@ -30,7 +30,7 @@ returns-then-rect-wide g c =
     let t = c .args .buffer .now in
     let s : (refused 10 [] ≡ answer i r (length t)) × (t ≡ filled o i r t) =
     elim (c .then-rect-wide .came) [
-        then-rect-wide·by·then-rect-wide q ↦ refused-across o i r t (omega (arith, q .if-rect-wide .taken, c .width-of-wide .ensures))
+      | then-rect-wide·by·then-rect-wide q ↦ refused-across o i r t (omega (arith, q .if-rect-wide .taken, c .width-of-wide .ensures))
       | then-rect-wide·by·else-rect-wide·then-rect-high q ↦ refused-down o i r t (omega (arith, q .if-rect-high .taken, c .height-of-high .ensures))
     ] in
     record {
