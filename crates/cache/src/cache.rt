@@ -75,6 +75,13 @@ impl<P: Picture> Cache<P> {
         }
     }
 
+    /// The picture below.
+    pub fn below(&self) -> &P
+        ensures { λ r. ⌜ now r ≡ now (self .entry) .below ⌝ }
+    {
+        &self.below
+    }
+
     /// The hits, fetches and bypasses so far.
     pub fn counts(&self) -> Counts
         ensures { λ r. ⌜ r ≡ countsOf (stateOf (P·Picture .count) (now (self .entry))) ⌝ }

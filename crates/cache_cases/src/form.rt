@@ -26,7 +26,7 @@ use store::Store;
 
 /// What is told of a run.
 #[derive(Clone, Copy)]
-struct Told {
+struct Outcome {
     sum: Sum,
     prepares: u64,
     below: u64,
@@ -35,25 +35,25 @@ struct Told {
 }
 
 /// One cache.
-fn one<P: Picture + Drop>(below: P, shape: TileShape, commands: &[Command], buffer: &mut [u64]) -> Told
+fn one<P: Picture + Drop>(below: P, shape: TileShape, commands: &[Command], buffer: &mut [u64]) -> Outcome
     requires { ⌜ P·Picture .sound below ⌝ }
 {
     let mut cache = Cache::new(shape, below);
     let sum = drive(&mut cache, commands, buffer);
-    Told { sum, prepares: cache.count(), below: cache.below().count(), upper: cache.counts(), lower: None }
+    Outcome { sum, prepares: cache.count(), below: cache.below().count(), upper: cache.counts(), lower: None }
 }
 
 /// A cache over a cache.
-fn two<P: Picture + Drop>(below: P, lower: TileShape, upper: TileShape, commands: &[Command], buffer: &mut [u64]) -> Told
+fn two<P: Picture + Drop>(below: P, lower: TileShape, upper: TileShape, commands: &[Command], buffer: &mut [u64]) -> Outcome
     requires { ⌜ P·Picture .sound below ⌝ }
 {
     let mut cache = Cache::new(upper, Cache::new(lower, below));
     let sum = drive(&mut cache, commands, buffer);
-    Told { sum, prepares: cache.count(), below: cache.below().count(), upper: cache.counts(), lower: Some(cache.below().counts()) }
+    Outcome { sum, prepares: cache.count(), below: cache.below().count(), upper: cache.counts(), lower: Some(cache.below().counts()) }
 }
 
 /// A cache over a shrunk picture over a cache over a turned one over a cache.
-fn stack<P: Picture + Drop>(below: P, shapes: [TileShape; 3], commands: &[Command], buffer: &mut [u64]) -> Result<Told, Refusal>
+fn stack<P: Picture + Drop>(below: P, shapes: [TileShape; 3], commands: &[Command], buffer: &mut [u64]) -> Result<Outcome, Refusal>
     requires { ⌜ P·Picture .sound below ⌝ }
 {
     let lowest = Cache::new(shapes[0], below);
@@ -63,7 +63,7 @@ fn stack<P: Picture + Drop>(below: P, shapes: [TileShape; 3], commands: &[Comman
     }
 }
 
-fn over<P: Picture + Drop>(below: P, shape: TileShape, commands: &[Command], buffer: &mut [u64]) -> Result<Told, Refusal>
+fn over<P: Picture + Drop>(below: P, shape: TileShape, commands: &[Command], buffer: &mut [u64]) -> Result<Outcome, Refusal>
     requires { ⌜ P·Picture .sound below ⌝ }
 {
     match Layer::new(below, Step::Shrink { across: 2, down: 2 }) {
@@ -73,7 +73,7 @@ fn over<P: Picture + Drop>(below: P, shape: TileShape, commands: &[Command], buf
 }
 
 /// The run of a line over a picture.
-fn run<P: Picture + Drop>(below: P, line: &str, heap: Global, buffer: &mut [u64]) -> Result<Result<Told, Refusal>, AllocError>
+fn run<P: Picture + Drop>(below: P, line: &str, heap: Global, buffer: &mut [u64]) -> Result<Result<Outcome, Refusal>, AllocError>
     requires { ⌜ P·Picture .sound below ⌝ }
 {
     let first = match shape(line, 0) {
@@ -100,7 +100,7 @@ fn run<P: Picture + Drop>(below: P, line: &str, heap: Global, buffer: &mut [u64]
     Ok(stack(below, [first, second, third], all.as_slice(), buffer))
 }
 
-fn open<S: Store + Drop>(store: S, line: &str, heap: Global, buffer: &mut [u64]) -> Result<Result<Told, Refusal>, AllocError> {
+fn open<S: Store + Drop>(store: S, line: &str, heap: Global, buffer: &mut [u64]) -> Result<Result<Outcome, Refusal>, AllocError> {
     match FileSource::<S, Grey>::open(store, 0) {
         Ok(file) => run(file, line, heap, buffer),
         Err(refused) => Ok(Err(refused.refusal)),

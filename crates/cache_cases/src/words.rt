@@ -84,5 +84,5 @@ pub fn commands(heap: Global, line: &str, skip: usize) -> Result<Vec<Command>, A
 pub fn shape(line: &str, index: usize) -> Result<TileShape, Refusal> {
     let at = index.saturating_mul(3).saturating_add(1);
     let mut it = line.split_whitespace().skip(at);
-    TileShape::new(number(it.next()), number(it.next()), number(it.next()))
+    TileShape::new(number(it.next()), number(it.next()), number(it.next()) as usize)
 }
