@@ -1,0 +1,4 @@
+pub mod Paste
+pub mod Figures
+pub mod Joins
+pub mod Heads
