@@ -16,7 +16,7 @@ use Rattle.std.proofs.shelf.Counted.{fill-by-all, length-counting}
 use Rattle.std.proofs.shelf.Bits.{mul-le}
 use Rattle.pixel.specs.Ops.{Ops}
 use Rattle.writer.specs.File.{sampleBytes, sampleWidth, pixelBytes, pixelWidth}
-use Rattle.writer.specs.Layout.{pasted, repeated, decodedBytes, codeBytes}
+use Rattle.writer.specs.Layout.{pasted, repeated, decodedBytes, codeBytes, rowBytes}
 use Rattle.writer.proofs.Paste.{pasted-pasted}
 
 pub times-more : (i n : ℕ) → (i + 1) * n ≡ i * n + n
@@ -28,6 +28,9 @@ times-suc i n = let z : suc i ≡ i + 1 = omega arith in ap (λ k. k * n) z ∙ 
 -- the i-th of e parts of length n ends by e * n
 pub room : (i e n : ℕ) → i < e → i * n + n ≤ e * n
 room i e n h = let a : (i + 1) * n ≤ e * n = mul-le (i + 1) n e n (omega arith) (omega arith) in omega (arith, times-more i n)
+
+pub times-split : (a s n : ℕ) → a ≤ s → a * n + (s - a) * n ≡ s * n
+times-split a s n h = sym (add-mul a (s - a) n) ∙ ap (λ k. k * n) (let z : a + (s - a) ≡ s = omega arith in z)
 
 pub joined-++ : {X A : Type 0} (f : X → List A) (xs ys : List X) → joined f (xs ++ ys) ≡ joined f xs ++ joined f ys
 joined-++ f [] ys = refl
@@ -100,3 +103,9 @@ module _ {K S : Type 0} (o : Ops K S) (deep : (p : K) → length (o .samples p) 
 
   pub length-codeBytes : (m c : ℕ) → length (codeBytes o m c) ≡ pixelWidth o m
   length-codeBytes m c = length-decodedBytes m (o .decode c)
+
+  -- a padded row has one length, whatever its codes
+  pub length-rowBytes : (m : ℕ) (pad : K) (side : ℕ) (codes : List ℕ) → length codes ≤ side → length (rowBytes o m pad side codes) ≡ side * pixelWidth o m
+  length-rowBytes m pad side codes h =
+      length-append (joined (codeBytes o m) codes) (repeated (pixelBytes o m pad) (side - length codes))
+      ∙ omega (arith, length-joined (codeBytes o m) (pixelWidth o m) (length-codeBytes m) codes, length-parts (λ k. pixelBytes o m pad) (pixelWidth o m) 0 (side - length codes) (λ k. length-pixelBytes m pad), times-split (length codes) side (pixelWidth o m) h)
