@@ -22,7 +22,7 @@ use Rattle.writer.proofs.Paste.{pasted-pasted}
 pub times-more : (i n : ℕ) → (i + 1) * n ≡ i * n + n
 times-more i n = add-mul i 1 n ∙ ap (λ k. i * n + k) (one-mul n)
 
-times-suc : (i n : ℕ) → suc i * n ≡ i * n + n
+pub times-suc : (i n : ℕ) → suc i * n ≡ i * n + n
 times-suc i n = let z : suc i ≡ i + 1 = omega arith in ap (λ k. k * n) z ∙ times-more i n
 
 -- the i-th of e parts of length n ends by e * n

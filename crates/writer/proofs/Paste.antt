@@ -8,6 +8,7 @@ use lib.ListN.{length, take, drop, set, length-append, length-take, length-drop}
 use borrow.Author.Needs.{needs}
 use Rattle.std.proofs.shelf.Lists.{take-at, drop-at, drop-drop, take-append-drop, length-take-le, set-split, append-nil, drop-append-le}
 use Rattle.writer.specs.Layout.{pasted}
+use Rattle.writer.specs.Calls.{over}
 
 pub pasted-one : (s : List ℕ) (p x : ℕ) → p < length s → set s p x ≡ pasted s p (x ∷ [])
 unfolding pasted
@@ -45,3 +46,10 @@ pasted-push s s1 p a q x e l h =
 -- more bytes, after what is written
 pub pasted-next : (s s1 s2 : List ℕ) (p : ℕ) (a b : List ℕ) (q : ℕ) → s1 ≡ pasted s p a → s2 ≡ pasted s1 q b → p + length a ≡ q → q + length b ≤ length s → s2 ≡ pasted s p (a ++ b)
 pasted-next s s1 s2 p a b q e f l h = f ∙ ap (λ t. pasted t q b) e ∙ pasted-pasted s p a b q l h
+
+pub pasted-front : (s bs : List ℕ) → pasted s 0 bs ≡ over bs s
+unfolding pasted
+pasted-front s bs = ap (λ n. bs ++ drop n s) (zero-add (length bs))
+
+pub take-over : (bs s : List ℕ) (n : ℕ) → n ≡ length bs → take n (over bs s) ≡ bs
+take-over bs s n e = take-at bs (drop (length bs) s) n (sym e)

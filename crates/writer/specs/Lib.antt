@@ -1,2 +1,5 @@
 pub mod File
 pub mod Layout
+pub mod Calls
+pub mod Tiles
+pub mod Log

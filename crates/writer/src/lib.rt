@@ -2,3 +2,8 @@
 
 mod header;
 mod layout;
+mod row_writer;
+mod rows;
+
+pub use row_writer::RowWriter;
+pub use rows::begin;
