@@ -4,9 +4,9 @@ use mathlib.Core.List.{List, [], _∷_, _++_, map, append-assoc}
 use mathlib.Core.Bool.{true, false, cond}
 use Prim.Native.Nat.{ℕ, zero, suc, _+_, _-_, _*_, _/_, _%_, _≤_, _<_}
 use native.Mathlib.Omega.{arith}
-use native.Mathlib.Nat.{zero-add, add-zero, zero-mul, add-mul, one-mul}
+use native.Mathlib.Nat.{zero-add, add-zero, zero-mul, add-mul, one-mul, mul-assoc}
 use lib.Dec.{ltb}
-use lib.ListN.{length, getD, length-append}
+use lib.ListN.{length, take, drop, getD, length-append, length-take}
 use Rattle.std.specs.Iters.{counting}
 use Rattle.std.specs.Joined.{joined}
 use Rattle.std.specs.declared.option.Option.{Option}
@@ -16,7 +16,7 @@ use Rattle.std.proofs.shelf.Counted.{fill-by-all, length-counting}
 use Rattle.std.proofs.shelf.Bits.{mul-le}
 use Rattle.pixel.specs.Ops.{Ops}
 use Rattle.writer.specs.File.{sampleBytes, sampleWidth, pixelBytes, pixelWidth}
-use Rattle.writer.specs.Layout.{pasted, repeated, decodedBytes, codeBytes, rowBytes}
+use Rattle.writer.specs.Layout.{pasted, repeated, decodedBytes, codeBytes, rowBytes, rowsBytes}
 use Rattle.writer.proofs.Paste.{pasted-pasted}
 
 pub times-more : (i n : ℕ) → (i + 1) * n ≡ i * n + n
@@ -31,6 +31,11 @@ room i e n h = let a : (i + 1) * n ≤ e * n = mul-le (i + 1) n e n (omega arith
 
 pub times-split : (a s n : ℕ) → a ≤ s → a * n + (s - a) * n ≡ s * n
 times-split a s n h = sym (add-mul a (s - a) n) ∙ ap (λ k. k * n) (let z : a + (s - a) ≡ s = omega arith in z)
+
+-- h rows of s parts, and the rows below them in a square
+pub square-split : (h s n : ℕ) → h ≤ s → h * (s * n) + (s - h) * s * n ≡ s * s * n
+square-split h s n l =
+    ap (λ k. k + (s - h) * s * n) (sym (mul-assoc h s n)) ∙ sym (add-mul (h * s) ((s - h) * s) n) ∙ ap (λ k. k * n) (times-split h s s l)
 
 pub joined-++ : {X A : Type 0} (f : X → List A) (xs ys : List X) → joined f (xs ++ ys) ≡ joined f xs ++ joined f ys
 joined-++ f [] ys = refl
@@ -79,6 +84,9 @@ length-joined f n h (x ∷ xs) =
 pub length-parts : {A : Type 0} (f : ℕ → List A) (n a c : ℕ) → ((k : ℕ) → length (f k) ≡ n) → length (joined f (counting a c)) ≡ c * n
 length-parts f n a c h = length-joined f n h (counting a c) ∙ ap (λ k. k * n) (length-counting a c)
 
+pub short : (n a : ℕ) (xs : List ℕ) → length (take n (drop a xs)) ≤ n
+short n a xs = simp length-take (omega arith)
+
 -- one turn of a loop that writes the part f k, of n bytes, for k from 0 on
 pub pasted-turn :
     (f : ℕ → List ℕ) (n : ℕ) → ((k : ℕ) → length (f k) ≡ n) → (s s1 s2 : List ℕ) (p k q : ℕ) → q ≡ p + k * n → q + n ≤ length s
@@ -109,3 +117,8 @@ module _ {K S : Type 0} (o : Ops K S) (deep : (p : K) → length (o .samples p) 
   length-rowBytes m pad side codes h =
       length-append (joined (codeBytes o m) codes) (repeated (pixelBytes o m pad) (side - length codes))
       ∙ omega (arith, length-joined (codeBytes o m) (pixelWidth o m) (length-codeBytes m) codes, length-parts (λ k. pixelBytes o m pad) (pixelWidth o m) 0 (side - length codes) (λ k. length-pixelBytes m pad), times-split (length codes) side (pixelWidth o m) h)
+
+  pub length-rowsBytes : (m : ℕ) (pad : K) (side wide : ℕ) (codes : List ℕ) (n : ℕ) → wide ≤ side → length (rowsBytes o m pad side wide codes n) ≡ n * (side * pixelWidth o m)
+  length-rowsBytes m pad side wide codes n h =
+      length-parts (λ j. rowBytes o m pad side (take wide (drop (j * wide) codes))) (side * pixelWidth o m) 0 n
+      (λ j. length-rowBytes m pad side (take wide (drop (j * wide) codes)) (omega (arith, short wide (j * wide) codes)))

@@ -5,3 +5,5 @@ pub mod Heads
 pub mod Ends
 pub mod Codes
 pub mod Nexts
+pub mod Logs
+pub mod Squares

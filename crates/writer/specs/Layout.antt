@@ -37,3 +37,7 @@ module _ {K S : Type 0} (o : Ops K S) where
   -- n rows of this width, each padded
   abbrev pub rowsBytes : ℕ → K → ℕ → ℕ → List ℕ → ℕ → List ℕ
   rowsBytes maxval pad side wide codes n = joined (λ j. rowBytes maxval pad side (take wide (drop (j * wide) codes))) (counting 0 n)
+
+  -- rows of this width, padded to a square
+  abbrev pub squareBytes : ℕ → K → ℕ → ℕ → ℕ → List ℕ → List ℕ
+  squareBytes maxval pad side wide high codes = rowsBytes maxval pad side wide codes high ++ repeated (pixelBytes o maxval pad) ((side - high) * side)

@@ -20,9 +20,9 @@ use Rattle.picture.specs.Compose.{stepped}
 use Rattle.writer.specs.File.{placeOf, pixelWidth, headerOf, file}
 use Rattle.writer.specs.Calls.{End, ending, Wrote}
 
--- there is a tile (c, r) of this side
-abbrev pub tiles : {K : Type 0} → Image K → ℕ → ℕ → ℕ → Bool
-tiles i c r side = (leb 1 side && leb side 256) && (ltb (c * side) (i .width) && ltb (r * side) (i .height))
+-- a picture so wide and high has a tile (c, r) of this side
+abbrev pub tiles : ℕ → ℕ → ℕ → ℕ → ℕ → Bool
+tiles width height c r side = (leb 1 side && leb side 256) && (ltb (c * side) width && ltb (r * side) height)
 
 -- how much of a side from a column or row on is in a picture so wide or high
 abbrev pub seen : ℕ → ℕ → ℕ → ℕ
@@ -36,8 +36,17 @@ cutting i c r side = Crop (c * side) (r * side) (seen side (c * side) (i .width)
 abbrev pub padding : ℕ → Step
 padding side = Embed (pos 0) (pos 0) side side None
 
-abbrev pub Cut : {K : Type 0} → Image K → ℕ → ℕ → ℕ → Rect → Type 0
-Cut i c r side x = (x .left ≡ c * side) × (x .top ≡ r * side) × (x .width ≡ seen side (c * side) (i .width)) × (x .height ≡ seen side (r * side) (i .height))
+-- the rectangle of that part
+pub record Cut (W H c r side : ℕ) (x : Rect) : Type 0 where
+  pub there : tiles W H c r side ≡ true
+  pub left : x .left ≡ c * side
+  pub top : x .top ≡ r * side
+  pub width : x .width ≡ seen side (c * side) W
+  pub height : x .height ≡ seen side (r * side) H
+
+abbrev pub Seen : ℕ → ℕ → ℕ → ℕ → ℕ → Option Rect → Type 0
+Seen width height c r side (Some x) = Cut width height c r side x
+Seen width height c r side None = tiles width height c r side ≡ false
 
 module _ {K S : Type 0} (o : Ops K S) where
   abbrev pub cut : Image K → ℕ → ℕ → ℕ → Image K
@@ -56,7 +65,7 @@ module _ {K S : Type 0} (o : Ops K S) where
   -- 14, then 11; by the lengths of the two buffers
   abbrev pub tileCheck : Image K → ℕ → ℕ → ℕ → ℕ → ℕ → Option ℕ
   tileCheck i c r side work out =
-      cond (tiles i c r side) (cond (leb (cutPlaces i c r side) work && leb (tileWidth i c r side) out) None (Some 11)) (Some 14)
+      cond (tiles (i .width) (i .height) c r side) (cond (leb (cutPlaces i c r side) work && leb (tileWidth i c r side) out) None (Some 11)) (Some 14)
 
   unfoldable pub tileEnd : Image K → ℕ → ℕ → ℕ → ℕ → ℕ → End
   tileEnd i c r side work out = ending (tileCheck i c r side work out) (firstFault (placeOf (cut i c r side)) (cutPlaces i c r side))

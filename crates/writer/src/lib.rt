@@ -4,6 +4,8 @@ mod header;
 mod layout;
 mod row_writer;
 mod rows;
+mod tile;
 
 pub use row_writer::RowWriter;
 pub use rows::begin;
+pub use tile::write_tile;

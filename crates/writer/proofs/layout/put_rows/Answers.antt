@@ -1,15 +1,14 @@
 use borrow.Author.Needs.{needs}
 use mathlib.Core.Path.{_≡_, sym, ap, _∙_, subst}
-use mathlib.Core.List.{List}
 use Prim.Native.Nat.{ℕ, _+_, _-_, _*_, _<_, _≤_}
 use native.Mathlib.Omega.{arith}
 use native.Mathlib.Nat.{zero-mul}
-use lib.ListN.{length, take, drop, getD, length-take, length-drop}
+use lib.ListN.{length, take, drop, getD}
 use Rattle.std.proofs.shelf.Lists.{getD-take, getD-drop}
 use Rattle.writer.specs.File.{pixelWidth}
 use Rattle.writer.specs.Layout.{pasted, rowBytes, Known}
 use Rattle.writer.proofs.Paste.{pasted-none}
-use Rattle.writer.proofs.Joins.{times-more, room, pasted-turn, length-rowBytes}
+use Rattle.writer.proofs.Joins.{times-more, room, pasted-turn, length-rowBytes, short}
 use Rattle.writer.proofs.layout.put_rows.Needs as need
 
 pub loop-j-holds : need.loop-j-holds
@@ -31,9 +30,6 @@ offset-codes-j g c =
 
 pub part-put-row-end : need.part-put-row-end
 part-put-row-end g c = row-in (c .loop-j .j) (c .args .high) (c .args .wide) (length (c .args .codes .now)) (c .loop-j-test .taken) (c .pre .codes)
-
-short : (n a : ℕ) (cs : List ℕ) → length (take n (drop a cs)) ≤ n
-short n a cs = simp length-take (omega arith)
 
 pub put-row-at-requires : need.put-row-at-requires
 put-row-at-requires g c κs =
