@@ -24,7 +24,7 @@ module _ {K S : Type 0} (o : Ops K S) where
   unfolding reading
   reading-join i a n m = sym (joined-parts (λ k. placeBytes o (i .maxval) (placeOf i k)) a n m)
 
-  reading-none : (i : Image K) (a : ℕ) → reading o i a 0 ≡ []
+  pub reading-none : (i : Image K) (a : ℕ) → reading o i a 0 ≡ []
   unfolding reading
   reading-none i a = refl
 

@@ -3,3 +3,4 @@ pub mod Layout
 pub mod Calls
 pub mod Tiles
 pub mod Log
+pub mod Whole
