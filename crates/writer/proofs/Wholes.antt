@@ -15,6 +15,7 @@ use Rattle.std.specs.declared.result.Result.{Result}
 use Rattle.std.specs.declared.result.Result.the-variants.{Ok, Err}
 use Rattle.std.proofs.shelf.Lists.{append-nil, drop-drop, drop-all, take-all}
 use Rattle.std.proofs.shelf.Bits.{mul-le}
+use Rattle.std.proofs.shelf.Tests.{and-from, and-left, and-right, cond-true, cond-false, eq-eqb, ne-eqb, le-leb, lt-leb}
 use Rattle.pixel.specs.Ops.{Ops}
 use Rattle.picture.specs.declared.fault.Fault.{Fault}
 use Rattle.picture.specs.declared.fault.Refusal.{Refusal}
@@ -23,10 +24,11 @@ use Rattle.picture.specs.Places.{Place, orElse, firstFault}
 use Rattle.picture.specs.Images.{Image, Model}
 use Rattle.picture.proofs.Faults.{first-append, first-same, first-stays}
 use Rattle.writer.specs.declared.row_writer.RowWriter.{RowWriter}
-use Rattle.writer.specs.File.{placeOf, pixelWidth, reading, raster}
+use Rattle.writer.specs.File.{placeOf, pixelWidth, reading, headerOf, raster, file}
+use Rattle.writer.specs.Whole.{fileWidth, fileCheck, fileEnd, Left, Filed}
 use Rattle.writer.specs.Layout.{pasted}
 use Rattle.writer.specs.Calls.{End, early, holed, wrote, ending, outcomeOf, amount, endOutcome, endAmount, endBytes, over, rowsOf, placesOf, ahead, fits, stripEnd, stripBytes, Strip}
-use Rattle.writer.proofs.Paste.{pasted-next, length-pasted}
+use Rattle.writer.proofs.Paste.{pasted-next, pasted-front, length-pasted}
 use Rattle.writer.proofs.Codes.{reading-long}
 use Rattle.writer.proofs.Nexts.{as-wide, as-high, as-bright, ahead-in, end-open}
 use Rattle.writer.proofs.Logs.{reading-join}
@@ -164,3 +166,70 @@ module _ {K S : Type 0} (o : Ops K S) where
         let clean : firstFault (placeOf i) (i .width * i .height) ≡ None = ap (firstFault (placeOf i)) (sym n) ∙ far .clean in
         let l = reading-long o deep i 0 (i .width * i .height) (first-zero i (i .width * i .height) clean) in
         (clean, far .bytes ∙ ap (λ k. pasted first head (reading o i 0 k)) n, far .ends ∙ ap (λ k. head + k * pixelWidth o (i .maxval)) n ∙ ap (λ k. head + k) (sym l))
+
+  module _ (i : Image K) (s l m : ℕ) where
+    pub end-zero : s ≡ 0 → fileEnd o i s l m ≡ early 15
+    unfolding fileEnd
+    end-zero e = ap (λ x. ending x (firstFault (placeOf i) (i .width * i .height))) (cond-true _ _ _ (eq-eqb s 0 e))
+
+    module _ (some : s ≡ 0 → ⊥) where
+      pub end-short : (l < i .width * min s (i .height)) ⊎ (m < fileWidth o i) → fileEnd o i s l m ≡ early 11
+      unfolding fileEnd
+      end-short h =
+          let no : leb (i .width * min s (i .height)) l && leb (fileWidth o i) m ≡ false = elim h [
+            inl p ↦ and-left _ (leb (fileWidth o i) m) (lt-leb (i .width * min s (i .height)) l p)
+            | inr p ↦ and-right (leb (i .width * min s (i .height)) l) _ (lt-leb (fileWidth o i) m p)
+          ] in
+          ap (λ x. ending x (firstFault (placeOf i) (i .width * i .height))) (cond-false _ _ _ (ne-eqb s 0 some) ∙ cond-false _ _ _ no)
+
+      pub end-room : i .width * min s (i .height) ≤ l → fileWidth o i ≤ m → fileEnd o i s l m ≡ ending None (firstFault (placeOf i) (i .width * i .height))
+      unfolding fileEnd
+      end-room p q =
+          ap (λ x. ending x (firstFault (placeOf i) (i .width * i .height)))
+          (cond-false _ _ _ (ne-eqb s 0 some) ∙ cond-true _ _ _ (and-from _ _ (le-leb (i .width * min s (i .height)) l p) (le-leb (fileWidth o i) m q)))
+
+  module _ {P : Type 0} (model : P → Model K) (count : P → ℕ) (sound : P → Type 0) (p : P) (s : ℕ) (work out : List ℕ) where
+    pub early-filed : (n : ℕ) (e : Refusal) → fileEnd o (model p .shown) s (length work) (length out) ≡ early n → told e ≡ refused n [] → sound p → Filed o model count sound p s work out (Err e) p work out
+    early-filed n e q t h =
+        let D : End → Type 0 = λ z. Left o model count sound z p work out p work out in
+        record {
+          answers = t ∙ ap endOutcome (sym q);
+          amounts = ap (λ z. endAmount z (length (file o (model p .shown)))) (sym q);
+          leaves = subst D (sym q) (refl, refl, refl);
+          keeps = refl;
+          stays = h;
+        }
+
+    none-written : (a : Result ℕ Refusal) (k : ℕ) (vs : List ℕ) → outcomeOf a ≡ refused k vs → amount a ≡ 0
+    none-written (Ok n) k vs e = let z : _≡_ {A = ℕ} 0 1 = cc in absurd (omega arith)
+    none-written (Err r) k vs e = refl
+
+    pub filed : (a : Result ℕ Refusal) (q : P) (work′ out′ : List ℕ) (x : Option Fault) → fileEnd o (model p .shown) s (length work) (length out) ≡ ending None x → outcomeOf a ≡ endOutcome (ending None x)
+        → (outcomeOf a ≡ done → (out′ ≡ over (file o (model p .shown)) out) × (amount a ≡ length (file o (model p .shown)))) → model q ≡ model p → sound q → Filed o model count sound p s work out a q work′ out′
+    filed a q work′ out′ None e t w k h =
+        let D : End → Type 0 = λ z. Left o model count sound z p work out q work′ out′ in
+        record {
+          answers = t ∙ ap endOutcome (sym e);
+          amounts = w t .1 ∙ ap (λ z. endAmount z (length (file o (model p .shown)))) (sym e);
+          leaves = subst D (sym e) (w t .0);
+          keeps = k;
+          stays = h;
+        }
+    filed a q work′ out′ (Some f) e t w k h =
+        let D : End → Type 0 = λ z. Left o model count sound z p work out q work′ out′ in
+        record {
+          answers = t ∙ ap endOutcome (sym e);
+          amounts = none-written a _ _ t ∙ ap (λ z. endAmount z (length (file o (model p .shown)))) (sym e);
+          leaves = subst D (sym e) tt;
+          keeps = k;
+          stays = h;
+        }
+
+  -- the header, and then the raster behind it, are the file
+  pub file-written : (i : Image K) (out out1 out2 : List ℕ) (head : ℕ) → out1 ≡ over (headerOf o i) out → head ≡ length (headerOf o i) → out2 ≡ pasted out1 head (raster o i)
+      → head + length (raster o i) ≤ length out → out2 ≡ over (file o i) out
+  file-written i out out1 out2 head e1 el e2 fit =
+      pasted-next out out1 out2 0 (headerOf o i) (raster o i) head (e1 ∙ sym (pasted-front out (headerOf o i))) e2 (zero-add (length (headerOf o i)) ∙ sym el) fit ∙ pasted-front out (file o i)
+
+  pub raster-long : (deep : (p : K) → length (o .samples p) ≡ o .depth) (i : Image K) → done ≡ endOutcome (ending None (firstFault (placeOf i) (i .width * i .height))) → length (raster o i) ≡ i .width * i .height * pixelWidth o (i .maxval)
+  raster-long deep i e = reading-long o deep i 0 (i .width * i .height) (first-zero i (i .width * i .height) (no-hole (firstFault (placeOf i) (i .width * i .height)) e))
