@@ -33,7 +33,7 @@ each-clean f zero e k h = absurd (omega arith)
 each-clean f (suc n) e k h =
     let p = or-none (firstFault f n) (faultOf (f n)) e in
     elim (cases-order k n) [
-      inl q ↦ ap (λ j. faultOf (f j)) q ∙ p .1
+      | inl q ↦ ap (λ j. faultOf (f j)) q ∙ p .1
       | inr s ↦ elim s [ inl l ↦ each-clean f n (p .0) k l | inr l ↦ absurd (omega arith) ]
     ]
 
@@ -41,7 +41,7 @@ each-clean f (suc n) e k h =
 pub at-place : {K : Type 0} (i : Image K) (k : ℕ) → k < i .width * i .height → (k % i .width < i .width) × (k / i .width < i .height)
 at-place i k h =
     let some : 0 < i .width = elim (cases-lt 0 (i .width)) [
-      inl l ↦ l
+      | inl l ↦ l
       | inr l ↦ (let z : i .width ≡ 0 = omega arith in let y : i .width * i .height ≡ 0 = ap (λ n. n * i .height) z ∙ zero-mul (i .height) in absurd (omega arith))
     ] in
     (mod-lt k some, div-below k (i .width) (i .height) some (let c = mul-comm (i .width) (i .height) in omega arith))

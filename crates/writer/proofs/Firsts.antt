@@ -55,7 +55,7 @@ record Found {K : Type 0} (f : ℕ → Place K) (n : ℕ) (e : Fault) : Type 0 w
 found : {K : Type 0} (f : ℕ → Place K) (n : ℕ) (e : Fault) → firstFault f n ≡ Some e → Found f n e
 found f zero e h = let z : _≡_ {A = ℕ} 0 1 = cc in absurd (omega arith)
 found f (suc n) e h = elim (or-some (firstFault f n) (faultOf (f n)) e h) [
-  inl p ↦ (let x = found f n e p in record { at = x .at; below = let b = x .below in omega arith; here = x .here; clean = x .clean })
+  | inl p ↦ (let x = found f n e p in record { at = x .at; below = let b = x .below in omega arith; here = x .here; clean = x .clean })
   | inr p ↦ record { at = n; below = omega arith; here = fault-hole (f n) e (p .1); clean = p .0 }
 ]
 
@@ -127,9 +127,12 @@ module _ {K S : Type 0} (o : Ops K S) (i : Image K) (r : Rect) (before : List �
       let at : (u v : ℕ) → Within r u v → (p : K) × (i .at u v ≡ pixel p) =
       λ u v h. (let p = clean-pixel (nth i r (index r u v)) (each-clean (nth i r) (area r) e (index r u v) (index-in i r u v h)) in (p .0, sym (index-at i r u v h) ∙ p .1)) in
       record {
-        fills = λ n. (q, λ u v h.
-            let p = at u v h in
-            (p .0, p .1, ap (λ t. getD t (index r u v) 0) w ∙ code-at (λ k. codeAt o (nth i r k)) (area r) before (index r u v) (index-in i r u v h) ∙ ap (codeAt o) (index-at i r u v h ∙ p .1)));
+        fills = λ n. (
+          q,
+          λ u v h.
+              let p = at u v h in
+              (p .0, p .1, ap (λ t. getD t (index r u v) 0) w ∙ code-at (λ k. codeAt o (nth i r k)) (area r) before (index r u v) (index-in i r u v h) ∙ ap (codeAt o) (index-at i r u v h ∙ p .1)),
+        );
         clean = λ d. at;
         tells = λ u v f h b. absurd (let p = at u v h in apart (i .at u v) (p .0) f (p .1) b);
         stays = ap (drop (area r)) w ∙ drop-at (map (λ k. codeAt o (nth i r k)) (counting 0 (area r))) (drop (area r) before) (area r) (length-map-counting (λ k. codeAt o (nth i r k)) 0 (area r));
@@ -139,8 +142,13 @@ module _ {K S : Type 0} (o : Ops K S) (i : Image K) (r : Rect) (before : List �
       record {
         fills = λ n. absurd (let p = n _ _ (place-in i r (x .at) (x .below)) in apart (nth i r (x .at)) (p .0) f (p .1) (x .here));
         clean = λ d. (let bad : _≡_ {A = Outcome} done (refused 12 (faultValues f)) = sym d ∙ q in let z : _≡_ {A = ℕ} 0 1 = cc in absurd (omega arith));
-        tells = λ u v g h b. (f, found-first i r f x, q, λ k l.
-            ap (λ t. getD t k 0) w ∙ zero-at (area r) before k l);
+        tells = λ u v g h b. (
+          f,
+          found-first i r f x,
+          q,
+          λ k l.
+              ap (λ t. getD t k 0) w ∙ zero-at (area r) before k l,
+        );
         stays = ap (drop (area r)) w ∙ drop-at (replicate (area r) 0) (drop (area r) before) (area r) (length-replicate (area r) 0);
       }
 

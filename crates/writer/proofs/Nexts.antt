@@ -35,7 +35,7 @@ module _ {K S : Type 0} (o : Ops K S) (i : Image K) (w : RowWriter) (s l m : ℕ
     unfolding stripEnd
     end-short e h =
         let no : leb (placesOf w s) l && leb (placesOf w s * pixelWidth o (w .size .maxval)) m ≡ false = elim h [
-          inl p ↦ and-left _ (leb (placesOf w s * pixelWidth o (w .size .maxval)) m) (lt-leb (placesOf w s) l p)
+          | inl p ↦ and-left _ (leb (placesOf w s * pixelWidth o (w .size .maxval)) m) (lt-leb (placesOf w s) l p)
           | inr p ↦ and-right (leb (placesOf w s) l) _ (lt-leb (placesOf w s * pixelWidth o (w .size .maxval)) m p)
         ] in
         ap (λ x. ending x (firstFault (ahead i w) (placesOf w s))) (cond-true _ _ _ fit ∙ cond-false _ _ _ (ne-eqb (rowsOf w s) 0 e) ∙ cond-false _ _ _ no)

@@ -25,23 +25,23 @@ length-pasted s p bs h = simp (length-append, length-take, length-drop) (omega a
 pub pasted-pasted : (s : List ℕ) (p : ℕ) (a b : List ℕ) (q : ℕ) → p + length a ≡ q → q + length b ≤ length s → pasted (pasted s p a) q b ≡ pasted s p (a ++ b)
 unfolding pasted
 pasted-pasted s p a b q e h =
-  let lp : length (take p s) ≡ p = length-take-le p s (omega arith) in
-  let lpa : length (take p s ++ a) ≡ q = length-append (take p s) a ∙ (omega arith) in
-  let shape : take p s ++ (a ++ drop (p + length a) s) ≡ (take p s ++ a) ++ drop q s = sym (append-assoc (take p s) a (drop (p + length a) s)) ∙ ap (λ n. (take p s ++ a) ++ drop n s) e in
-  let front : take q (take p s ++ (a ++ drop (p + length a) s)) ≡ take p s ++ a = ap (take q) shape ∙ take-at (take p s ++ a) (drop q s) q lpa in
-  let more : drop (q + length b) (take p s ++ (a ++ drop (p + length a) s)) ≡ drop (length b) (drop q s) =
-        sym (drop-drop (length b) q (take p s ++ (a ++ drop (p + length a) s))) ∙ ap (drop (length b)) (ap (drop q) shape ∙ drop-at (take p s ++ a) (drop q s) q lpa) in
-  let back : drop (length b) (drop q s) ≡ drop (p + length (a ++ b)) s = drop-drop (length b) q s ∙ ap (λ n. drop n s) (let z : q + length b ≡ p + length (a ++ b) = omega (arith, length-append a b) in z) in
-  ap (λ t. t ++ (b ++ drop (q + length b) (take p s ++ (a ++ drop (p + length a) s)))) front
-  ∙ ap (λ t. (take p s ++ a) ++ (b ++ t)) (more ∙ back)
-  ∙ append-assoc (take p s) a (b ++ drop (p + length (a ++ b)) s)
-  ∙ ap (λ t. take p s ++ t) (sym (append-assoc a b (drop (p + length (a ++ b)) s)))
+    let lp : length (take p s) ≡ p = length-take-le p s (omega arith) in
+    let lpa : length (take p s ++ a) ≡ q = length-append (take p s) a ∙ (omega arith) in
+    let shape : take p s ++ (a ++ drop (p + length a) s) ≡ (take p s ++ a) ++ drop q s = sym (append-assoc (take p s) a (drop (p + length a) s)) ∙ ap (λ n. (take p s ++ a) ++ drop n s) e in
+    let front : take q (take p s ++ (a ++ drop (p + length a) s)) ≡ take p s ++ a = ap (take q) shape ∙ take-at (take p s ++ a) (drop q s) q lpa in
+    let more : drop (q + length b) (take p s ++ (a ++ drop (p + length a) s)) ≡ drop (length b) (drop q s) =
+    sym (drop-drop (length b) q (take p s ++ (a ++ drop (p + length a) s))) ∙ ap (drop (length b)) (ap (drop q) shape ∙ drop-at (take p s ++ a) (drop q s) q lpa) in
+    let back : drop (length b) (drop q s) ≡ drop (p + length (a ++ b)) s = drop-drop (length b) q s ∙ ap (λ n. drop n s) (let z : q + length b ≡ p + length (a ++ b) = omega (arith, length-append a b) in z) in
+    ap (λ t. t ++ (b ++ drop (q + length b) (take p s ++ (a ++ drop (p + length a) s)))) front
+    ∙ ap (λ t. (take p s ++ a) ++ (b ++ t)) (more ∙ back)
+    ∙ append-assoc (take p s) a (b ++ drop (p + length (a ++ b)) s)
+    ∙ ap (λ t. take p s ++ t) (sym (append-assoc a b (drop (p + length (a ++ b)) s)))
 
 -- one byte more, after what is written
 pub pasted-push : (s s1 : List ℕ) (p : ℕ) (a : List ℕ) (q x : ℕ) → s1 ≡ pasted s p a → p + length a ≡ q → q < length s → set s1 q x ≡ pasted s p (a ++ (x ∷ []))
 pasted-push s s1 p a q x e l h =
-  let long : length s1 ≡ length s = ap length e ∙ length-pasted s p a (omega arith) in
-  pasted-one s1 q x (omega arith) ∙ ap (λ t. pasted t q (x ∷ [])) e ∙ pasted-pasted s p a (x ∷ []) q l (omega arith)
+    let long : length s1 ≡ length s = ap length e ∙ length-pasted s p a (omega arith) in
+    pasted-one s1 q x (omega arith) ∙ ap (λ t. pasted t q (x ∷ [])) e ∙ pasted-pasted s p a (x ∷ []) q l (omega arith)
 
 -- more bytes, after what is written
 pub pasted-next : (s s1 s2 : List ℕ) (p : ℕ) (a b : List ℕ) (q : ℕ) → s1 ≡ pasted s p a → s2 ≡ pasted s1 q b → p + length a ≡ q → q + length b ≤ length s → s2 ≡ pasted s p (a ++ b)

@@ -34,7 +34,7 @@ use Rattle.writer.proofs.Paste.{pasted-next, pasted-front}
 -- a number below a product has a factor above 0
 mul-zero-of : (a s k : ℕ) → k < a * s → 0 < s
 mul-zero-of a s k h = elim (cases-lt 0 s) [
-  inl l ↦ l
+  | inl l ↦ l
   | inr l ↦ (let z : s ≡ 0 = omega arith in let y : a * s ≡ 0 = ap (λ n. a * n) z ∙ mul-zero a in absurd (omega arith))
 ]
 
@@ -74,7 +74,7 @@ module _ {K S : Type 0} (o : Ops K S) (i : Image K) (c r side : ℕ) where
       let x : pos u -ℤ pos 0 ≡ pos u = +ℤ-idr (pos u) in
       let y : pos v -ℤ pos 0 ≡ pos v = +ℤ-idr (pos v) in
       let no : ltb u w && ltb v h ≡ false = elim a [
-        inl l ↦ and-left (ltb u w) (ltb v h) (le-ltb u w l)
+        | inl l ↦ and-left (ltb u w) (ltb v h) (le-ltb u w l)
         | inr l ↦ and-right (ltb u w) (ltb v h) (le-ltb v h l)
       ] in
       ap (λ z. taken o (i .maxval) (cut o i c r side .at) (embedded (groundOf None) w h z (pos v -ℤ pos 0))) x
@@ -228,7 +228,7 @@ module _ {K S : Type 0} (o : Ops K S) (i : Image K) (c r side : ℕ) where
     unfolding tileEnd
     end-short h s =
         let no : leb (cutPlaces o i c r side) l && leb (tileWidth o i c r side) m ≡ false = elim s [
-          inl p ↦ and-left _ (leb (tileWidth o i c r side) m) (lt-leb (cutPlaces o i c r side) l p)
+          | inl p ↦ and-left _ (leb (tileWidth o i c r side) m) (lt-leb (cutPlaces o i c r side) l p)
           | inr p ↦ and-right (leb (cutPlaces o i c r side) l) _ (lt-leb (tileWidth o i c r side) m p)
         ] in
         ap (λ e. ending e (firstFault (placeOf (cut o i c r side)) (cutPlaces o i c r side))) (cond-true _ _ _ h ∙ cond-false _ _ _ no)

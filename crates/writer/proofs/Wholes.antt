@@ -148,15 +148,17 @@ module _ {K S : Type 0} (o : Ops K S) where
           pasted-next first out (putMid end (length out - end) out part′) head (reading o i 0 (i .width * v .next)) (stripBytes o i v s) end (far .bytes) put (omega arith) (omega arith)
           ∙ ap (λ x. pasted first head (reading o i 0 (i .width * v .next) ++ x)) (bytes ∙ ap (λ k. reading o i k (i .width * rowsOf v s)) (sym (zero-add (i .width * v .next))))
           ∙ ap (pasted first head) (reading-join o i 0 (i .width * v .next) (i .width * rowsOf v s) ∙ ap (reading o i 0) (sym mv)) in
-          let len : length (putMid end (length out - end) out part′) ≡ length out = ap length put ∙ length-pasted out end (stripBytes o i v s) (omega arith) in
-          (nx, record {
-            fit = fits-same i v v′ es ek (far .fit);
-            room = let h = far .room in omega arith;
-            long = len ∙ far .long;
-            ends = let q : i .width * v′ .next * w ≡ i .width * v .next * w + placesOf v s * w = ap (λ k. k * w) (mv ∙ ap (λ k. i .width * v .next + k) (sym pl)) ∙ add-mul (i .width * v .next) (placesOf v s) w in omega arith;
-            bytes = all;
-            clean = ap (firstFault (placeOf i)) (mv ∙ ap (λ k. i .width * v .next + k) (sym pl)) ∙ fault-more ∙ clean;
-          })
+          let len : length (putMid end (length out - end) out part′) ≡ length out = ap length put ∙ length-pasted out end (stripBytes o i v s) (omega arith) in (
+            nx,
+            record {
+              fit = fits-same i v v′ es ek (far .fit);
+              room = let h = far .room in omega arith;
+              long = len ∙ far .long;
+              ends = let q : i .width * v′ .next * w ≡ i .width * v .next * w + placesOf v s * w = ap (λ k. k * w) (mv ∙ ap (λ k. i .width * v .next + k) (sym pl)) ∙ add-mul (i .width * v .next) (placesOf v s) w in omega arith;
+              bytes = all;
+              clean = ap (firstFault (placeOf i)) (mv ∙ ap (λ k. i .width * v .next + k) (sym pl)) ∙ fault-more ∙ clean;
+            },
+          )
 
     -- behind the last row all is written
     pub all-written : (deep : (p : K) → length (o .samples p) ≡ o .depth) → v .next ≡ v .size .height
@@ -177,7 +179,7 @@ module _ {K S : Type 0} (o : Ops K S) where
       unfolding fileEnd
       end-short h =
           let no : leb (i .width * min s (i .height)) l && leb (fileWidth o i) m ≡ false = elim h [
-            inl p ↦ and-left _ (leb (fileWidth o i) m) (lt-leb (i .width * min s (i .height)) l p)
+            | inl p ↦ and-left _ (leb (fileWidth o i) m) (lt-leb (i .width * min s (i .height)) l p)
             | inr p ↦ and-right (leb (i .width * min s (i .height)) l) _ (lt-leb (fileWidth o i) m p)
           ] in
           ap (λ x. ending x (firstFault (placeOf i) (i .width * i .height))) (cond-false _ _ _ (ne-eqb s 0 some) ∙ cond-false _ _ _ no)

@@ -106,9 +106,9 @@ module _ {K S : Type 0} (o : Ops K S) where
   abbrev pub stripCheck : Image K → RowWriter → ℕ → ℕ → ℕ → Option ℕ
   stripCheck i w s work out =
       cond (fits i w)
-          (cond (eqb (rowsOf w s) 0) (Some 15)
-              (cond (leb (placesOf w s) work && leb (placesOf w s * pixelWidth o (w .size .maxval)) out) None (Some 11)))
-          (Some 13)
+      (cond (eqb (rowsOf w s) 0) (Some 15)
+      (cond (leb (placesOf w s) work && leb (placesOf w s * pixelWidth o (w .size .maxval)) out) None (Some 11)))
+      (Some 13)
 
   unfoldable pub stripEnd : Image K → RowWriter → ℕ → ℕ → ℕ → End
   stripEnd i w s work out = ending (stripCheck i w s work out) (firstFault (ahead i w) (placesOf w s))

@@ -13,7 +13,11 @@ pub(crate) fn pixel_bytes<K: Kind>(maxval: u16) -> usize
     ensures value { λ r. ⌜ r ≡ pixelWidth (K·Kind .ops) maxval ⌝ }
     ensures few { λ r. ⌜ r ≤ 6 ⌝ }
 {
-    if maxval < 256 { K::depth() } else { K::depth() * 2 }
+    if maxval < 256 {
+        K::depth()
+    } else {
+        K::depth() * 2
+    }
 }
 
 /// Writes a sample from the place `p` on, and answers the place behind it.
@@ -64,7 +68,13 @@ pub(crate) fn put_codes<K: Kind>(out: &mut [u8], p: usize, codes: &[u64], maxval
 }
 
 /// Writes a pixel so many times.
-pub(crate) fn put_same<K: Kind>(out: &mut [u8], p: usize, pixel: K, count: usize, maxval: u16) -> usize
+pub(crate) fn put_same<K: Kind>(
+    out: &mut [u8],
+    p: usize,
+    pixel: K,
+    count: usize,
+    maxval: u16,
+) -> usize
     requires room { ⌜ p + count * pixelWidth (K·Kind .ops) maxval ≤ length (now out) ⌝ }
     requires under { ⌜ Under maxval (K·Kind .ops .samples pixel) ⌝ }
     ensures end { λ r. ⌜ r ≡ p + count * pixelWidth (K·Kind .ops) maxval ⌝ }
@@ -78,7 +88,14 @@ pub(crate) fn put_same<K: Kind>(out: &mut [u8], p: usize, pixel: K, count: usize
 }
 
 /// Writes the pixels of codes, and then `pad` until there are `side` pixels.
-fn put_row<K: Kind>(out: &mut [u8], p: usize, codes: &[u64], side: usize, pad: K, maxval: u16) -> usize
+fn put_row<K: Kind>(
+    out: &mut [u8],
+    p: usize,
+    codes: &[u64],
+    side: usize,
+    pad: K,
+    maxval: u16,
+) -> usize
     requires within { ⌜ length (now codes) ≤ side ⌝ }
     requires room { ⌜ p + side * pixelWidth (K·Kind .ops) maxval ≤ length (now out) ⌝ }
     requires known { ⌜ ((k : ℕ) → k < length (now codes) → Known (K·Kind .ops) maxval (K·Kind .ops .decode (getD (now codes) k 0))) ⌝ }
@@ -111,7 +128,14 @@ pub(crate) fn put_rows<K: Kind>(
 {
     let mut at = p;
     for j in 0..high {
-        at = put_row(out, at, &codes[j * wide..j * wide + wide], side, pad, maxval);
+        at = put_row(
+            out,
+            at,
+            &codes[j * wide..j * wide + wide],
+            side,
+            pad,
+            maxval,
+        );
     }
     at
 }

@@ -27,7 +27,14 @@ pub fn begin<P: Picture>(picture: &P, out: &mut [u8]) -> Result<(usize, RowWrite
     }
     let mark = <P::Pixel as Kind>::mark();
     let bytes = put_header(out, mark, size.width, size.height, size.maxval);
-    Ok((bytes, RowWriter { size, mark, next: 0 }))
+    Ok((
+        bytes,
+        RowWriter {
+            size,
+            mark,
+            next: 0,
+        },
+    ))
 }
 
 impl RowWriter {
@@ -108,6 +115,10 @@ impl RowWriter {
 
     /// Ends the writer, whether or not all rows are written.
     pub fn abandon(self) {
-        let RowWriter { size: _, mark: _, next: _ } = self;
+        let RowWriter {
+            size: _,
+            mark: _,
+            next: _,
+        } = self;
     }
 }

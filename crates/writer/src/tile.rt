@@ -109,7 +109,8 @@ pub fn write_tile<P: Picture>(
         None => return Err(Refusal::NoTile),
     };
     let square = side as usize * side as usize;
-    let bytes = header_bytes(side, side, size.maxval) + square * pixel_bytes::<P::Pixel>(size.maxval);
+    let bytes = header_bytes(side, side, size.maxval)
+        + square * pixel_bytes::<P::Pixel>(size.maxval);
     if work.len() < part.area() || out.len() < bytes {
         return Err(Refusal::BufferTooShort);
     }
@@ -119,6 +120,15 @@ pub fn write_tile<P: Picture>(
     }
     let head = put_header(out, <P::Pixel as Kind>::mark(), side, side, size.maxval);
     let pad = padding::<P::Pixel>(size.maxval);
-    let _end = put_square(out, head, work, part.width as usize, part.height as usize, side as usize, pad, size.maxval);
+    let _end = put_square(
+        out,
+        head,
+        work,
+        part.width as usize,
+        part.height as usize,
+        side as usize,
+        pad,
+        size.maxval,
+    );
     Ok(bytes)
 }

@@ -11,6 +11,6 @@ returns-then-n-lt10 t c = record { value = sym (length-digit (c .args .n) (c .if
 
 pub returns-else-n-lt10 : need.returns-else-n-lt10
 returns-else-n-lt10 t c =
-  let f : c .args .n < 2 ^ 32 = omega (arith, c .fits .n) in
-  let e : c .digits .result + 1 ≡ length (decimal (c .args .n)) = ap (λ k. k + 1) (c .digits .ensures .value) ∙ sym (length-step (c .args .n) (c .if-n-lt10 .left) f) in
-  record { value = e; small = omega (arith, length-small (c .args .n) f) }
+    let f : c .args .n < 2 ^ 32 = omega (arith, c .fits .n) in
+    let e : c .digits .result + 1 ≡ length (decimal (c .args .n)) = ap (λ k. k + 1) (c .digits .ensures .value) ∙ sym (length-step (c .args .n) (c .if-n-lt10 .left) f) in
+    record { value = e; small = omega (arith, length-small (c .args .n) f) }

@@ -24,19 +24,19 @@ add-result-else-n-lt10 t c = let f : c .args .n < 2 ^ 32 = omega (arith, c .fits
 
 pub returns-then-n-lt10 : need.returns-then-n-lt10
 returns-then-n-lt10 t c =
-  let l = length-digit (c .args .n) (c .if-n-lt10 .taken) in
-  record {
-    end = omega arith;
-    out = pasted-one (c .args .out .now) (c .args .p) (48 + c .args .n) (omega arith) ∙ ap (pasted (c .args .out .now) (c .args .p)) (sym (decimal-digit (c .args .n) (c .if-n-lt10 .taken)))
-  }
+    let l = length-digit (c .args .n) (c .if-n-lt10 .taken) in
+    record {
+      end = omega arith;
+      out = pasted-one (c .args .out .now) (c .args .p) (48 + c .args .n) (omega arith) ∙ ap (pasted (c .args .out .now) (c .args .p)) (sym (decimal-digit (c .args .n) (c .if-n-lt10 .taken)));
+    }
 
 pub returns-else-n-lt10 : need.returns-else-n-lt10
 returns-else-n-lt10 t c =
-  let f : c .args .n < 2 ^ 32 = omega (arith, c .fits .n) in
-  let l = length-step (c .args .n) (c .if-n-lt10 .left) f in
-  record {
-    end = omega (arith, c .put-number-end .ensures .end);
-    out = pasted-push (c .args .out .now) (c .put-number-end .last .out) (c .args .p) (decimal (c .args .n / 10)) (c .put-number-end .result) (48 + c .args .n % 10)
-      (c .put-number-end .ensures .out) (sym (c .put-number-end .ensures .end)) (omega (arith, c .put-number-end .ensures .end))
-      ∙ ap (pasted (c .args .out .now) (c .args .p)) (sym (step (c .args .n) (c .if-n-lt10 .left) f))
-  }
+    let f : c .args .n < 2 ^ 32 = omega (arith, c .fits .n) in
+    let l = length-step (c .args .n) (c .if-n-lt10 .left) f in
+    record {
+      end = omega (arith, c .put-number-end .ensures .end);
+      out = pasted-push (c .args .out .now) (c .put-number-end .last .out) (c .args .p) (decimal (c .args .n / 10)) (c .put-number-end .result) (48 + c .args .n % 10)
+          (c .put-number-end .ensures .out) (sym (c .put-number-end .ensures .end)) (omega (arith, c .put-number-end .ensures .end))
+          ∙ ap (pasted (c .args .out .now) (c .args .p)) (sym (step (c .args .n) (c .if-n-lt10 .left) f));
+    }

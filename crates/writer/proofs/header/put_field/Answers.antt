@@ -10,5 +10,5 @@ unfolding field
 returns c = record {
   end = omega (arith, c .put-number-end .ensures .end);
   out = pasted-push (c .args .out .now) (c .put-number-end .last .out) (c .args .p) (decimal (c .args .n)) (c .put-number-end .result) (c .args .behind)
-    (c .put-number-end .ensures .out) (sym (c .put-number-end .ensures .end)) (omega (arith, c .put-number-end .ensures .end))
+      (c .put-number-end .ensures .out) (sym (c .put-number-end .ensures .end)) (omega (arith, c .put-number-end .ensures .end));
 }

@@ -35,7 +35,7 @@ loop-k-again g c =
     let h : k < length cs = omega arith in
     let r = room k (length cs) n h in
     elim (c .match-decode .came) [
-      in-Some w ↦
+      | in-Some w ↦
           let d : o .decode (getD cs k 0) ≡ _ = sym (c .decode .ensures) ∙ w .in-Some .is in
           let at : c .match-decode .at ≡ c .args .p + (k + 1) * n = omega (arith, times-more k n, w .at-is, w .put-pixel-at .ensures .end, c .loop-k .inv .0) in (
             at,

@@ -58,7 +58,7 @@ part-strip-start g c =
 went : (g : given.Over) (c : need.In-Ok g)
     → (c .strip .last .self .next ≡ c .loop-writer .writer .next + rowsOf (c .loop-writer .writer) (c .args .height))
     × wholes.Far (g .Pixel·Kind .ops) (g .P·Picture .model (c .args .picture .now) .shown) (c .strip .last .self) (c .args .head) (c .loop-writer .end + c .in-Ok .bytes) (c .args .out .now)
-        (putMid (c .loop-writer .end) (length (c .loop-writer .out) - c .loop-writer .end) (c .loop-writer .out) (c .strip .last .out))
+    (putMid (c .loop-writer .end) (length (c .loop-writer .out) - c .loop-writer .end) (c .loop-writer .out) (c .strip .last .out))
 went g c =
     let o = g .Pixel·Kind .ops in
     let i = g .P·Picture .model (c .args .picture .now) .shown in

@@ -82,9 +82,10 @@ returns-in-Ok g c =
     (c .put-strips .ensures .answers)
     (λ d.
     let w = c .put-strips .ensures .writes d in
-    let long = wholes.raster-long o (g .Pixel·Kind·met .deep) i (sym d ∙ c .put-strips .ensures .answers) in
-    (wholes.file-written o i (c .args .out .now) (c .begin .last .out) (c .put-strips .last .out) (c .in-Ok .begun .0) (x .writes) (x .amounts) (w .0) (omega (arith, c .if-out-bytes .left, x .amounts)),
-    w .1 ∙ ap (λ n. n + length (raster o i)) (x .amounts) ∙ sym (length-append (headerOf o i) (raster o i))))
+    let long = wholes.raster-long o (g .Pixel·Kind·met .deep) i (sym d ∙ c .put-strips .ensures .answers) in (
+      wholes.file-written o i (c .args .out .now) (c .begin .last .out) (c .put-strips .last .out) (c .in-Ok .begun .0) (x .writes) (x .amounts) (w .0) (omega (arith, c .if-out-bytes .left, x .amounts)),
+      w .1 ∙ ap (λ n. n + length (raster o i)) (x .amounts) ∙ sym (length-append (headerOf o i) (raster o i)),
+    ))
     (c .put-strips .ensures .keeps) (c .put-strips .ensures .stays)
 
 pub returns-in-Err : need.returns-in-Err
