@@ -1,7 +1,7 @@
 -- The bytes of codes are those of the places that they stand for.
 use mathlib.Core.Path.{_≡_, refl, sym, ap, _∙_, subst}
-use mathlib.Core.Logic.{_⊎_, inl, inr}
-use mathlib.Core.List.{List, [], _∷_, _++_, map}
+use mathlib.Core.Logic.{inl, inr}
+use mathlib.Core.List.{List, map}
 use Prim.Native.Nat.{ℕ, zero, suc, _+_, _-_, _*_, _/_, _%_, _≤_, _<_}
 use native.Mathlib.Omega.{arith}
 use native.Mathlib.Nat.{zero-add, add-zero, zero-mul, mul-comm, mod-lt}
@@ -15,11 +15,10 @@ use Rattle.std.proofs.shelf.Counted.{length-map-counting, getD-map-counting}
 use Rattle.std.proofs.shelf.Tests.{cases-order, cases-lt}
 use Rattle.std.proofs.shelf.Bits.{div-below}
 use Rattle.pixel.specs.Ops.{Ops}
-use Rattle.picture.specs.declared.fault.Fault.{Fault}
 use Rattle.picture.specs.Places.{Place, pixel, hole, faultOf, orElse, firstFault}
 use Rattle.picture.specs.Images.{Image, Dim, Bounded}
 use Rattle.picture.specs.Prepare.{put, codeAt}
-use Rattle.writer.specs.File.{placeOf, placeBytes, pixelBytes, pixelWidth, reading}
+use Rattle.writer.specs.File.{placeOf, placeBytes, pixelWidth, reading}
 use Rattle.writer.specs.Layout.{decodedBytes, codeBytes, Known}
 use Rattle.writer.proofs.Joins.{joined-map, joined-same, joined-shift, length-pixelBytes, times-suc}
 

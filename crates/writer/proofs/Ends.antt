@@ -1,24 +1,23 @@
 -- How a call ends that prepares one part of a picture.
 use mathlib.Core.Path.{_≡_, refl, sym, ap, _∙_}
-use mathlib.Core.List.{List, [], _∷_, _++_, map}
-use Prim.Native.Nat.{ℕ, zero, suc, _+_, _≤_, _<_}
+use mathlib.Core.List.{List, []}
+use Prim.Native.Nat.{ℕ, _+_, _≤_}
 use native.Mathlib.Omega.{arith}
 use lib.ListN.{length}
 use Rattle.std.specs.declared.option.Option.{Option}
 use Rattle.std.specs.declared.option.Option.the-variants.{Some, None}
-use Rattle.std.specs.declared.result.Result.{Result}
 use Rattle.std.specs.declared.result.Result.the-variants.{Ok, Err}
 use Rattle.pixel.specs.Ops.{Ops}
 use Rattle.picture.specs.declared.fault.Fault.{Fault}
 use Rattle.picture.specs.declared.fault.Refusal.{Refusal}
 use Rattle.picture.specs.declared.rect.Rect.{Rect}
-use Rattle.picture.specs.Refusals.{Outcome, done, refused, told, outcome, faultValues}
-use Rattle.picture.specs.Places.{Place, pixel, hole, faultOf, orElse, firstFault}
+use Rattle.picture.specs.Refusals.{done, refused, told}
+use Rattle.picture.specs.Places.{Place, hole, firstFault}
 use Rattle.picture.specs.Images.{Image, Model}
 use Rattle.picture.specs.Prepare as prepare
 use Rattle.picture.specs.Prepare.{up, area, nth, answer, put, codeAt, filled, Prepared}
 use Rattle.picture.proofs.Serving.{answer-is, filled-is}
-use Rattle.writer.specs.Calls.{End, early, holed, wrote, ending, outcomeOf, amount, endOutcome, endAmount, endCount, endCodes, endBytes, over, Wrote}
+use Rattle.writer.specs.Calls.{End, early, holed, wrote, ending, endOutcome, endAmount, endCount, endCodes, endBytes, over, Wrote}
 
 -- with no hole there is no fault
 pub no-fault : (x : Option Fault) → done ≡ prepare.holed x → x ≡ None

@@ -1,10 +1,10 @@
 -- The first hole of a rectangle, by columns and rows.
 use mathlib.Core.Path.{_≡_, refl, sym, ap, _∙_, subst}
 use mathlib.Core.Logic.{_⊎_, inl, inr}
-use mathlib.Core.List.{List, [], _∷_, _++_, map}
+use mathlib.Core.List.{List, _++_, map}
 use Prim.Native.Nat.{ℕ, zero, suc, _+_, _-_, _*_, _/_, _%_, _≤_, _<_}
 use native.Mathlib.Omega.{arith}
-use native.Mathlib.Nat.{mul-comm, div-add-mod, mul-le-mul-right}
+use native.Mathlib.Nat.{mul-comm, div-add-mod}
 use lib.ListN.{length, drop, getD, replicate}
 use Rattle.std.specs.Iters.{counting}
 use Rattle.std.specs.declared.option.Option.{Option}
@@ -23,11 +23,11 @@ use Rattle.picture.specs.Images.{Image, Model}
 use Rattle.picture.specs.Compose.{Composed}
 use Rattle.picture.specs.Region.{Within}
 use Rattle.picture.specs.Prepare as prepare
-use Rattle.picture.specs.Prepare.{area, nth, put, codeAt, Prepared}
+use Rattle.picture.specs.Prepare.{area, nth, put, codeAt}
 use Rattle.picture.proofs.Serving.{answer-is, filled-is, row-is}
-use Rattle.writer.specs.Log.{Log, whole, NoHole, Before, First, Pixels, Answered, Answers}
+use Rattle.writer.specs.Log.{whole, Before, First, Answered, Answers}
 use Rattle.writer.proofs.Codes.{each-clean, code-at}
-use Rattle.writer.proofs.Joins.{room, times-more}
+use Rattle.writer.proofs.Joins.{room}
 use Rattle.writer.proofs.Logs.{logged}
 
 -- the first fault is that of a hole with pixels before it

@@ -1,24 +1,21 @@
 -- The next strip of a row writer.
-use mathlib.Core.Path.{_≡_, refl, sym, ap, _∙_, fun-ext}
+use mathlib.Core.Path.{_≡_, sym, ap, _∙_, fun-ext}
 use mathlib.Core.Logic.{_⊎_, inl, inr}
-use mathlib.Core.List.{List}
-use mathlib.Core.Bool.{Bool, true, false, cond, _&&_}
-use Prim.Native.Nat.{ℕ, _+_, _-_, _*_, _/_, _%_, _≤_, _<_, min}
+use mathlib.Core.Bool.{true, false, _&&_}
+use Prim.Native.Nat.{ℕ, _+_, _*_, _/_, _%_, _≤_, _<_}
 use native.Mathlib.Omega.{arith}
 use native.Mathlib.Nat.{zero-add, mul-add-mod-self-left, mul-add-div, mul-add}
-use lib.Dec.{leb, eqb}
-use Rattle.std.specs.declared.option.Option.{Option}
-use Rattle.std.specs.declared.option.Option.the-variants.{Some, None}
+use lib.Dec.{leb}
+use Rattle.std.specs.declared.option.Option.the-variants.{None}
 use Rattle.std.proofs.shelf.Tests.{and-parts, and-from, and-left, and-right, cond-true, cond-false, eqb-true, eq-eqb, ne-eqb, le-leb, lt-leb}
 use Rattle.std.proofs.shelf.Bits.{mul-le}
 use Rattle.pixel.specs.Ops.{Ops}
 use Rattle.picture.specs.declared.rect.Rect.{Rect}
-use Rattle.picture.specs.Places.{Place, firstFault}
+use Rattle.picture.specs.Places.{firstFault}
 use Rattle.picture.specs.Images.{Image}
-use Rattle.picture.specs.Prepare.{area, nth}
 use Rattle.writer.specs.declared.row_writer.RowWriter.{RowWriter}
-use Rattle.writer.specs.File.{placeOf, pixelWidth}
-use Rattle.writer.specs.Calls.{End, early, ending, rowsOf, placesOf, ahead, fits, stripCheck, stripEnd}
+use Rattle.writer.specs.File.{pixelWidth}
+use Rattle.writer.specs.Calls.{early, ending, rowsOf, placesOf, ahead, fits, stripEnd}
 use Rattle.writer.proofs.Ends.{Part}
 
 module _ {K S : Type 0} (o : Ops K S) (i : Image K) (w : RowWriter) (s l m : ℕ) where

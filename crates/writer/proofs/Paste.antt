@@ -1,12 +1,11 @@
 -- One write after another.
-use mathlib.Core.Path.{_≡_, refl, sym, ap, _∙_}
+use mathlib.Core.Path.{_≡_, sym, ap, _∙_}
 use mathlib.Core.List.{List, [], _∷_, _++_, append-assoc}
-use Prim.Native.Nat.{ℕ, suc, _+_, _-_, _≤_, _<_}
+use Prim.Native.Nat.{ℕ, suc, _+_, _≤_, _<_}
 use native.Mathlib.Omega.{arith}
-use native.Mathlib.Nat.{zero-add, add-zero, add-assoc}
+use native.Mathlib.Nat.{zero-add, add-zero}
 use lib.ListN.{length, take, drop, set, length-append, length-take, length-drop}
-use borrow.Author.Needs.{needs}
-use Rattle.std.proofs.shelf.Lists.{take-at, drop-at, drop-drop, take-append-drop, length-take-le, set-split, append-nil, drop-append-le}
+use Rattle.std.proofs.shelf.Lists.{take-at, drop-at, drop-drop, take-append-drop, length-take-le, set-split}
 use Rattle.writer.specs.Layout.{pasted}
 use Rattle.writer.specs.Calls.{over}
 

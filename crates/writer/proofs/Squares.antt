@@ -1,8 +1,8 @@
 -- The raster of a tile: the rows of its visible part, padded.
-use mathlib.Core.Path.{_≡_, refl, sym, ap, _∙_, fun-ext}
+use mathlib.Core.Path.{_≡_, sym, ap, _∙_, fun-ext}
 use mathlib.Core.Logic.{_⊎_, inl, inr}
-use mathlib.Core.List.{List, [], _∷_, _++_}
-use mathlib.Core.Bool.{Bool, true, false, cond, _&&_}
+use mathlib.Core.List.{List, _++_}
+use mathlib.Core.Bool.{true, false, _&&_}
 use Prim.Native.Nat.{ℕ, zero, suc, _+_, _-_, _*_, _/_, _%_, _≤_, _<_, min}
 use native.Mathlib.Omega.{arith}
 use native.Mathlib.Nat.{zero-add, add-zero, add-comm, add-mul, zero-mul, mul-zero, mul-comm, div-add-mod}
@@ -14,20 +14,20 @@ use Rattle.std.specs.Joined.{joined}
 use Rattle.std.specs.declared.option.Option.the-variants.{Some, None}
 use Rattle.std.proofs.shelf.Lists.{getD-take, getD-drop, length-take-le}
 use Rattle.std.proofs.shelf.Tests.{and-parts, and-from, and-left, and-right, cond-true, cond-false, lt-ltb, le-ltb, ltb-true, le-leb, lt-leb, leb-true, cases-lt}
-use Rattle.std.proofs.shelf.Bits.{div-mul-add, mod-mul-add, div-below, mod-below}
+use Rattle.std.proofs.shelf.Bits.{div-mul-add, mod-mul-add, mod-below}
 use Rattle.pixel.specs.Ops.{Ops}
 use Rattle.picture.specs.declared.rect.Rect.{Rect}
-use Rattle.picture.specs.Places.{Place, pixel, hole, faultOf, firstFault}
+use Rattle.picture.specs.Places.{Place, pixel, firstFault}
 use Rattle.picture.specs.Images.{Image, Dim, Bounded}
-use Rattle.picture.specs.Steps.{among, nearest, grounded, groundOf, embedded, formula, copied}
-use Rattle.picture.specs.Compose.{taken, stepped}
-use Rattle.picture.specs.Prepare.{area, nth, codeAt, put}
+use Rattle.picture.specs.Steps.{grounded, groundOf, embedded}
+use Rattle.picture.specs.Compose.{taken}
+use Rattle.picture.specs.Prepare.{codeAt}
 use Rattle.writer.specs.File.{placeOf, placeBytes, pixelBytes, pixelWidth, reading, header, headerOf, raster, file}
 use Rattle.writer.specs.Layout.{pasted, repeated, codeBytes, rowBytes, rowsBytes, squareBytes}
-use Rattle.writer.specs.Calls.{End, early, ending, over}
-use Rattle.writer.specs.Tiles.{tiles, seen, Cut, cut, tile, cutPlaces, tileWidth, tileCheck, tileEnd}
+use Rattle.writer.specs.Calls.{early, ending, over}
+use Rattle.writer.specs.Tiles.{tiles, Cut, cut, tile, cutPlaces, tileWidth, tileEnd}
 use Rattle.writer.proofs.Ends.{Part}
-use Rattle.writer.proofs.Codes.{at-place, each-clean, code-at, code-bytes}
+use Rattle.writer.proofs.Codes.{at-place, each-clean, code-bytes}
 use Rattle.writer.proofs.Joins.{by-place, joined-parts, joined-same, joined-shift, room, times-split, times-suc, length-pixelBytes, length-parts, length-rowsBytes, square-split}
 use Rattle.writer.proofs.Paste.{pasted-next, pasted-front}
 

@@ -1,13 +1,13 @@
 -- One strip after another up to the last row.
 use mathlib.Core.Path.{_≡_, refl, sym, ap, _∙_, subst}
 use mathlib.Core.Logic.{_⊎_, inl, inr}
-use mathlib.Core.List.{List, [], _∷_, _++_, append-assoc}
-use mathlib.Core.Bool.{Bool, true, false, cond, _&&_}
-use Prim.Native.Nat.{ℕ, zero, suc, _+_, _-_, _*_, _≤_, _<_, min}
+use mathlib.Core.List.{List, [], _++_}
+use mathlib.Core.Bool.{true, false, _&&_}
+use Prim.Native.Nat.{ℕ, _+_, _-_, _*_, _≤_, _<_, min}
 use native.Mathlib.Omega.{arith}
-use native.Mathlib.Nat.{zero-add, add-mul, mul-add, mul-le-mul-right, mul-zero, zero-mul}
+use native.Mathlib.Nat.{zero-add, add-mul, mul-add, mul-le-mul-right}
 use lib.Dec.{leb, eqb}
-use lib.ListN.{length, take, drop, length-append, length-drop}
+use lib.ListN.{length, take, drop, length-drop}
 use borrow.Rule.Slice.PartMut.{putMid, postOf}
 use Rattle.std.specs.declared.option.Option.{Option}
 use Rattle.std.specs.declared.option.Option.the-variants.{Some, None}
@@ -19,15 +19,15 @@ use Rattle.std.proofs.shelf.Tests.{and-from, and-left, and-right, cond-true, co
 use Rattle.pixel.specs.Ops.{Ops}
 use Rattle.picture.specs.declared.fault.Fault.{Fault}
 use Rattle.picture.specs.declared.fault.Refusal.{Refusal}
-use Rattle.picture.specs.Refusals.{Outcome, done, refused, told, faultValues}
-use Rattle.picture.specs.Places.{Place, orElse, firstFault}
+use Rattle.picture.specs.Refusals.{done, refused, told}
+use Rattle.picture.specs.Places.{orElse, firstFault}
 use Rattle.picture.specs.Images.{Image, Model}
 use Rattle.picture.proofs.Faults.{first-append, first-same, first-stays}
 use Rattle.writer.specs.declared.row_writer.RowWriter.{RowWriter}
 use Rattle.writer.specs.File.{placeOf, pixelWidth, reading, headerOf, raster, file}
-use Rattle.writer.specs.Whole.{fileWidth, fileCheck, fileEnd, Left, Filed}
+use Rattle.writer.specs.Whole.{fileWidth, fileEnd, Left, Filed}
 use Rattle.writer.specs.Layout.{pasted}
-use Rattle.writer.specs.Calls.{End, early, holed, wrote, ending, outcomeOf, amount, endOutcome, endAmount, endBytes, over, rowsOf, placesOf, ahead, fits, stripEnd, stripBytes, Strip}
+use Rattle.writer.specs.Calls.{End, early, wrote, ending, outcomeOf, amount, endOutcome, endAmount, endBytes, over, rowsOf, placesOf, ahead, fits, stripEnd, stripBytes, Strip}
 use Rattle.writer.proofs.Paste.{pasted-next, pasted-front, length-pasted}
 use Rattle.writer.proofs.Codes.{reading-long}
 use Rattle.writer.proofs.Nexts.{as-wide, as-high, as-bright, ahead-in, end-open}

@@ -1,6 +1,6 @@
 -- What the calls answer that prepare one part of a picture and write bytes; the calls of a row writer.
 use mathlib.Core.Path.{_≡_}
-use mathlib.Core.Bool.{Bool, true, false, cond, _&&_}
+use mathlib.Core.Bool.{Bool, cond, _&&_}
 use mathlib.Core.List.{List, [], _++_}
 use Prim.Native.Nat.{ℕ, _+_, _-_, _*_, _<_, min}
 use lib.Dec.{leb, eqb}

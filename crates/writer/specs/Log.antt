@@ -9,8 +9,8 @@ use Rattle.pixel.specs.Ops.{Ops}
 use Rattle.picture.specs.declared.fault.Fault.{Fault}
 use Rattle.picture.specs.declared.fault.Refusal.{Refusal}
 use Rattle.picture.specs.declared.rect.Rect.{Rect}
-use Rattle.picture.specs.Refusals.{Outcome, done, refused, faultValues, outcome}
-use Rattle.picture.specs.Places.{Place, pixel, hole}
+use Rattle.picture.specs.Refusals.{done, refused, faultValues, outcome}
+use Rattle.picture.specs.Places.{pixel, hole}
 use Rattle.picture.specs.Images.{Image, Model}
 use Rattle.picture.specs.Compose.{composed}
 use Rattle.picture.specs.Region.{Within}
@@ -19,14 +19,16 @@ use Rattle.writer.specs.declared.row_writer.RowWriter.{RowWriter}
 use Rattle.writer.specs.File.{file}
 use Rattle.writer.specs.Calls.{amount, Strip}
 use Rattle.writer.specs.Tiles.{Tiled}
+use Rattle.writer.specs.Whole.{Filed}
 
 module _ {P K S : Type 0} (o : Ops K S) (model : P → Model K) (count : P → ℕ) (sound bare : P → Type 0) where
-  -- a call of p, which is q behind it; size and count alter nothing and are left out
+  -- a call of p, which is q behind it; size, count and begin alter nothing and are left out
   pub data Call (p q : P) : Type 0 where
     prepared : {r : Rect} {work work′ : List ℕ} {a : Result Unit Refusal} → Prepared o model count sound p r work a q work′ → Call p q
     forgot : Forgot model count sound bare p q → Call p q
     stripped : {s : ℕ} {w w′ : RowWriter} {work work′ out out′ : List ℕ} {a : Result ℕ Refusal} → Strip o model count sound p s w work out a q w′ work′ out′ → Call p q
     tiled : {c r side : ℕ} {work work′ out out′ : List ℕ} {a : Result ℕ Refusal} → Tiled o model count sound p c r side work out a q work′ out′ → Call p q
+    filed : {s : ℕ} {work work′ out out′ : List ℕ} {a : Result ℕ Refusal} → Filed o model count sound p s work out a q work′ out′ → Call p q
 
   -- calls one after another
   pub data Log (p : P) : P → Type 0 where

@@ -1,6 +1,6 @@
 -- The whole file of a picture, written by strips of one height.
 use mathlib.Core.Path.{_≡_}
-use mathlib.Core.Bool.{Bool, true, false, cond, _&&_}
+use mathlib.Core.Bool.{cond, _&&_}
 use mathlib.Core.List.{List}
 use Prim.Native.Nat.{ℕ, _+_, _*_, min}
 use lib.Dec.{leb, eqb}
@@ -10,7 +10,6 @@ use Rattle.std.specs.declared.option.Option.the-variants.{Some, None}
 use Rattle.std.specs.declared.result.Result.{Result}
 use Rattle.pixel.specs.Ops.{Ops}
 use Rattle.picture.specs.declared.fault.Refusal.{Refusal}
-use Rattle.picture.specs.Refusals.{Outcome, done}
 use Rattle.picture.specs.Places.{firstFault}
 use Rattle.picture.specs.Images.{Image, Model}
 use Rattle.writer.specs.File.{placeOf, pixelWidth, headerOf, file}

@@ -1,13 +1,10 @@
 ghost use mathlib.Core.Path.{_≡_};
-ghost use mathlib.Core.Bool.{true, false};
-ghost use mathlib.Core.List.{List};
 ghost use Prim.Native.Nat.{ℕ, _+_, _-_, _*_, _<_, _≤_};
 ghost use lib.IntN.{ℤ};
 ghost use lib.ListN.{length, getD};
 ghost use Rattle.std.specs.declared.option.Option.the-variants.{Some, None};
 ghost use Rattle.pixel.specs.Ops.{Under};
 ghost use Rattle.picture.specs.Places.{Place, pixel};
-ghost use Rattle.picture.specs.Images.{Image};
 ghost use Rattle.picture.specs.Steps.{groundOf, grounded};
 ghost use Rattle.picture.specs.Compose.{taken};
 ghost use Rattle.writer.specs.File.{pixelWidth};

@@ -1,14 +1,13 @@
 ghost use mathlib.Core.Path.{_≡_};
 ghost use mathlib.Core.Bool.{true};
-ghost use mathlib.Core.List.{List};
-ghost use Prim.Native.Nat.{ℕ, _+_, _*_, _≤_, min};
+ghost use Prim.Native.Nat.{_+_, _*_, _≤_, min};
 ghost use lib.ListN.{length};
 ghost use Rattle.std.specs.declared.option.Option.the-variants.{None};
 ghost use Rattle.picture.specs.Places.{firstFault};
 ghost use Rattle.picture.specs.Refusals.{done};
 ghost use Rattle.writer.specs.File.{placeOf, pixelWidth, raster};
 ghost use Rattle.writer.specs.Layout.{pasted};
-ghost use Rattle.writer.specs.Calls.{ending, outcomeOf, amount, endOutcome, endAmount, fits};
+ghost use Rattle.writer.specs.Calls.{ending, outcomeOf, amount, endOutcome, fits};
 ghost use Rattle.writer.specs.Whole.{Filed};
 use crate::header::header_bytes;
 use crate::layout::pixel_bytes;

@@ -1,10 +1,9 @@
-use mathlib.Core.Path.{_≡_, sym, ap, _∙_}
-use Prim.Native.Nat.{ℕ, _+_, _-_, _*_, _<_, _≤_}
+use Prim.Native.Nat.{_-_}
 use native.Mathlib.Omega.{arith}
 use lib.ListN.{length}
 use Rattle.std.specs.Joined.{joined}
 use Rattle.writer.specs.File.{pixelWidth, pixelBytes}
-use Rattle.writer.specs.Layout.{pasted, repeated, codeBytes}
+use Rattle.writer.specs.Layout.{repeated, codeBytes}
 use Rattle.writer.proofs.Paste.{pasted-next}
 use Rattle.writer.proofs.Joins.{length-joined, length-parts, length-codeBytes, length-pixelBytes, times-split}
 use Rattle.writer.proofs.layout.put_row.Needs as need

@@ -1,9 +1,8 @@
-use mathlib.Core.Path.{_≡_, sym, ap, _∙_}
-use Prim.Native.Nat.{ℕ, _+_, _*_, _<_, _≤_}
+use mathlib.Core.Path.{sym}
+use Prim.Native.Nat.{_<_}
 use native.Mathlib.Omega.{arith}
 use native.Mathlib.Nat.{zero-mul}
 use Rattle.writer.specs.File.{pixelWidth, pixelBytes}
-use Rattle.writer.specs.Layout.{pasted}
 use Rattle.writer.proofs.Paste.{pasted-none}
 use Rattle.writer.proofs.Joins.{length-pixelBytes, times-more, room, pasted-turn}
 use Rattle.writer.proofs.layout.put_same.Needs as need

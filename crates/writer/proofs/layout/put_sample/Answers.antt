@@ -1,15 +1,14 @@
-use mathlib.Core.Path.{_≡_, refl, sym, ap, _∙_}
-use mathlib.Core.Bool.{true, false, cond}
+use mathlib.Core.Path.{_≡_, refl, ap, _∙_}
+use mathlib.Core.Bool.{true, false}
 use mathlib.Core.List.{List, [], _∷_}
 use Prim.Native.Nat.{ℕ, _+_, _/_, _%_, _≤_, _<_}
 use native.Mathlib.Omega.{arith}
 use lib.Dec.{ltb}
 use lib.ListN.{length, set, length-set}
-use borrow.Author.Needs.{needs}
 use borrow.Author.Tests.{lt-ltb, le-ltb}
 use Rattle.writer.specs.File.{sampleBytes, sampleWidth}
 use Rattle.writer.specs.Layout.{pasted}
-use Rattle.writer.proofs.Paste.{pasted-one, pasted-pasted, length-pasted}
+use Rattle.writer.proofs.Paste.{pasted-one, pasted-pasted}
 use Rattle.writer.proofs.layout.put_sample.Needs as need
 
 one : (out : List ℕ) (p s m : ℕ) → m < 256 → p + sampleWidth m ≤ length out → set out p s ≡ pasted out p (sampleBytes m s)

@@ -1,10 +1,7 @@
-use borrow.Author.Needs.{needs}
-use mathlib.Core.Path.{_≡_, sym, ap, _∙_}
-use Prim.Native.Nat.{ℕ, _+_, _-_, _*_, _<_, _≤_}
+use Prim.Native.Nat.{_-_, _*_}
 use native.Mathlib.Omega.{arith}
-use lib.ListN.{length}
 use Rattle.writer.specs.File.{pixelWidth, pixelBytes}
-use Rattle.writer.specs.Layout.{pasted, repeated, rowsBytes}
+use Rattle.writer.specs.Layout.{repeated, rowsBytes}
 use Rattle.writer.proofs.Paste.{pasted-next}
 use Rattle.writer.proofs.Joins.{length-parts, length-pixelBytes, length-rowsBytes, square-split}
 use Rattle.writer.proofs.tile.put_square.Needs as need

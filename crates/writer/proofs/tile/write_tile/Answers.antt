@@ -1,8 +1,7 @@
-use borrow.Author.Needs.{needs}
 use mathlib.Core.Path.{_≡_, refl, sym, ap, _∙_, subst}
 use mathlib.Core.Logic.{_⊎_, inl, inr}
 use mathlib.Core.List.{List}
-use Prim.Native.Nat.{ℕ, _+_, _-_, _*_, _<_, _≤_}
+use Prim.Native.Nat.{ℕ, _+_, _*_, _<_, _≤_}
 use native.Mathlib.Omega.{arith}
 use native.Mathlib.Nat.{mul-comm}
 use lib.IntN.{ℤ}
@@ -15,7 +14,7 @@ use Rattle.pixel.specs.Ops.{Ops}
 use Rattle.picture.specs.declared.rect.Rect.{Rect}
 use Rattle.picture.specs.Images.{Image}
 use Rattle.picture.specs.Prepare.{put, codeAt}
-use Rattle.writer.specs.Layout.{Known, pasted, squareBytes}
+use Rattle.writer.specs.Layout.{Known}
 use Rattle.picture.specs.declared.fault.Refusal.the-variants.{NoTile, BufferTooShort}
 use Rattle.writer.specs.File.{placeOf, pixelWidth, header, file}
 use Rattle.writer.specs.Tiles.{tiles, Cut, cut, tile, cutPlaces, tileWidth, tileEnd}

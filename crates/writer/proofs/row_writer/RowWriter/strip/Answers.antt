@@ -1,20 +1,16 @@
-use borrow.Author.Needs.{needs}
 use mathlib.Core.Path.{_≡_, refl, sym, ap, _∙_, subst}
 use mathlib.Core.Logic.{_⊎_, inl, inr}
-use mathlib.Core.List.{List, _++_}
-use Prim.Native.Nat.{ℕ, _+_, _-_, _*_, _<_, _≤_, min}
+use Prim.Native.Nat.{ℕ, _+_, _*_, _<_, _≤_}
 use native.Mathlib.Omega.{arith}
-use native.Mathlib.Nat.{add-zero, zero-add}
-use lib.ListN.{length, take, drop, getD}
+use native.Mathlib.Nat.{add-zero}
+use lib.ListN.{length, take, getD}
 use Rattle.std.specs.Joined.{joined}
-use Rattle.std.specs.declared.result.Result.{Result}
-use Rattle.std.specs.declared.result.Result.the-variants.{Ok, Err}
 use Rattle.picture.specs.declared.fault.Refusal.the-variants.{BufferTooShort, OtherWriter, NoRows}
-use Rattle.picture.specs.Prepare.{codeAt, put, Prepared}
+use Rattle.picture.specs.Prepare.{codeAt, put}
 use Rattle.writer.specs.declared.row_writer.RowWriter.{RowWriter}
-use Rattle.writer.specs.File.{placeOf, pixelWidth, reading}
+use Rattle.writer.specs.File.{pixelWidth}
 use Rattle.writer.specs.Layout.{pasted, codeBytes, Known}
-use Rattle.writer.specs.Calls.{rowsOf, placesOf, ahead, endAmount, stripBytes, stripEnd, over}
+use Rattle.writer.specs.Calls.{rowsOf, placesOf, ahead, endAmount, stripBytes, stripEnd}
 use Rattle.std.proofs.shelf.Lists.{length-take-le, getD-take}
 use Rattle.std.specs.declared.option.Option.the-variants.{None}
 use Rattle.writer.proofs.Paste.{pasted-front}
