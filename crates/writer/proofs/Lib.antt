@@ -1,0 +1,11 @@
+pub mod Paste
+pub mod Figures
+pub mod Joins
+pub mod Heads
+pub mod Ends
+pub mod Codes
+pub mod Nexts
+pub mod Logs
+pub mod Squares
+pub mod Firsts
+pub mod Wholes
