@@ -1,4 +1,4 @@
-//! Pictures as files: by strips of rows, and tile by tile.
+//! Pictures as files, tile by tile. Writing by strips of rows stands inside, and is not offered until the laws over whole runs are complete.
 
 mod header;
 mod laws;
@@ -9,7 +9,4 @@ mod tile;
 mod whole;
 
 pub use laws::answers_hold;
-pub use row_writer::RowWriter;
-pub use rows::begin;
 pub use tile::write_tile;
-pub use whole::write_file;
