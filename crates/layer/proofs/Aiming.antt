@@ -1,6 +1,6 @@
 -- Walks and windows over a region.
-use mathlib.Core.Path.{_≡_, refl, sym, _∙_, ap, subst}
-use Prim.Native.Nat.{ℕ, zero, suc, _+_, _-_, _*_, _<_, _≤_, min}
+use mathlib.Core.Path.{_≡_, sym, _∙_, ap, subst}
+use Prim.Native.Nat.{ℕ, _+_, _-_, _*_, _<_, _≤_, min}
 use native.Mathlib.Nat.{mul-assoc, mul-comm, mul-sub, add-mul, mul-le-mul-right, one-mul}
 use native.Mathlib.Omega.{arith}
 use Rattle.std.proofs.shelf.Bits.{mul-le}
@@ -8,10 +8,9 @@ use Rattle.picture.specs.declared.rect.Rect.{Rect}
 use Rattle.picture.specs.declared.step.Axis.{Axis}
 use Rattle.picture.specs.declared.step.Turn.{Turn}
 use Rattle.picture.specs.Prepare.{area}
-use Rattle.picture.specs.Region.{Within}
 use Rattle.layer.specs.declared.aim.Carry.{Carry}
 use Rattle.layer.specs.declared.aim.Lens.{Lens}
-use Rattle.layer.specs.Aims.{Copies, Fair, Few, Flips, Frames, Inside, Stops, Turns, lensColumn, lensRow, spot, walked}
+use Rattle.layer.specs.Aims.{Copies, Few, Flips, Frames, Inside, Stops, Turns, walked}
 
 -- a walk that stands b rows down and a columns right in its region
 stops : (c : Carry) (i j x y a b : ℕ) → x ≡ c .at .left + a → y ≡ c .at .top + b → a < c .at .width → b < c .at .height → j * c .up ≤ c .base + j * c .down

@@ -1,8 +1,8 @@
 -- What a prepare below says of a region that lies inside and has room.
-use mathlib.Core.Path.{_≡_, refl, sym, _∙_, ap, subst}
-use mathlib.Core.Bool.{true, false}
-use mathlib.Core.List.{List, [], _∷_, _++_, map}
-use Prim.Native.Nat.{ℕ, _+_, _-_, _*_, _<_, _≤_}
+use mathlib.Core.Path.{_≡_, refl, sym, _∙_, ap}
+use mathlib.Core.Bool.{true}
+use mathlib.Core.List.{List, _++_, map}
+use Prim.Native.Nat.{ℕ, _+_, _-_, _<_, _≤_}
 use native.Mathlib.Omega.{arith}
 use lib.ListN.{length, getD, drop}
 use Rattle.std.specs.Iters.{counting}
@@ -11,106 +11,25 @@ use Rattle.std.proofs.shelf.Lists.{getD-append-left}
 use Rattle.std.proofs.shelf.Counted.{getD-map-counting, length-map-counting}
 use Rattle.std.specs.declared.option.Option.{Option}
 use Rattle.std.specs.declared.option.Option.the-variants.{Some, None}
-use Rattle.std.specs.declared.result.Result.{Result}
 use Rattle.std.specs.declared.result.Result.the-variants.{Ok, Err}
 use Rattle.pixel.specs.Ops.{Ops}
-use Rattle.picture.specs.declared.fault.Cause.{Cause}
-use Rattle.picture.specs.declared.fault.Cause.the-variants.{Missing, Unread, Above, NoPixel}
 use Rattle.picture.specs.declared.fault.Fault.{Fault}
-use Rattle.picture.specs.declared.fault.Refusal.{Refusal}
-use Rattle.picture.specs.declared.fault.Refusal.the-variants.{WrongMark, HeaderEnds, HeaderByte, HeaderNumber, OutsideLimits, DoesNotFit, NotInside, BufferTooShort, Hole, OtherWriter, NoTile, NoRows, RowsLeft}
 use Rattle.picture.specs.declared.rect.Rect.{Rect}
-use Rattle.picture.specs.Refusals.{Outcome, done, refused, causeNumber, faultValues, outcome, told}
+use Rattle.picture.specs.Refusals.{Outcome, done}
 use Rattle.picture.specs.Places.{Place, pixel, hole, faultOf, firstFault}
 use Rattle.picture.specs.Images.{Image}
 use Rattle.picture.specs.Compose.{pixelOr}
-use Rattle.picture.specs.Prepare.{answer, area, codeAt, coded, filled, firstIn, holed, nth, orFault, put, Shown}
+use Rattle.picture.specs.Prepare.{answer, area, codeAt, coded, filled, firstIn, holed, nth, put, Shown}
 use Rattle.picture.proofs.Faults.{fault-of-err}
 use Rattle.picture.proofs.Serving.{answer-is, filled-is}
 use Rattle.layer.specs.Aims.{Inside}
 use Rattle.layer.specs.Layers.{located}
 use Rattle.layer.specs.Sums.{orBlack}
-use Rattle.layer.proofs.Holes.{none-each, pixel-is}
-
-cause-same : (a b : Cause) → causeNumber a ≡ causeNumber b → a ≡ b
-cause-same Missing Missing e = refl
-cause-same Missing Unread e = absurd (omega arith)
-cause-same Missing Above e = absurd (omega arith)
-cause-same Missing NoPixel e = absurd (omega arith)
-cause-same Unread Missing e = absurd (omega arith)
-cause-same Unread Unread e = refl
-cause-same Unread Above e = absurd (omega arith)
-cause-same Unread NoPixel e = absurd (omega arith)
-cause-same Above Missing e = absurd (omega arith)
-cause-same Above Unread e = absurd (omega arith)
-cause-same Above Above e = refl
-cause-same Above NoPixel e = absurd (omega arith)
-cause-same NoPixel Missing e = absurd (omega arith)
-cause-same NoPixel Unread e = absurd (omega arith)
-cause-same NoPixel Above e = absurd (omega arith)
-cause-same NoPixel NoPixel e = refl
-
-abbrev fault : Cause → ℕ → ℕ → ℕ → Fault
-fault c s x y = record { cause = c; source = s; column = x; row = y }
-
--- a fault is told by its values
-fault-same : (f g : Fault) → refused 12 (faultValues f) ≡ refused 12 (faultValues g) → f ≡ g
-fault-same f g e =
-    let c : causeNumber (f .cause) ≡ causeNumber (g .cause) = cc in
-    let s : f .source ≡ g .source = cc in
-    let x : f .column ≡ g .column = cc in
-    let y : f .row ≡ g .row = cc in
-    ap (λ z. fault z (f .source) (f .column) (f .row)) (cause-same (f .cause) (g .cause) c)
-    ∙ ap (λ z. fault (g .cause) z (f .column) (f .row)) s
-    ∙ ap (λ z. fault (g .cause) (g .source) z (f .row)) x
-    ∙ ap (λ z. fault (g .cause) (g .source) (g .column) z) y
+use Rattle.layer.proofs.Holes.{none-each}
 
 done-none : (x : Option Fault) → done ≡ holed x → x ≡ None
 done-none None e = refl
 done-none (Some f) e = cc
-
-hole-some : (x : Option Fault) (f : Fault) → refused 12 (faultValues f) ≡ holed x → x ≡ Some f
-hole-some None f e = cc
-hole-some (Some g) f e = ap Some (fault-same g f (sym e))
-
--- only a hole is told
-abbrev IsHole : Refusal → Type 0
-IsHole WrongMark = ⊥
-IsHole HeaderEnds = ⊥
-IsHole HeaderByte = ⊥
-IsHole HeaderNumber = ⊥
-IsHole OutsideLimits = ⊥
-IsHole DoesNotFit = ⊥
-IsHole NotInside = ⊥
-IsHole BufferTooShort = ⊥
-IsHole (Hole f) = Unit {0}
-IsHole OtherWriter = ⊥
-IsHole NoTile = ⊥
-IsHole NoRows = ⊥
-IsHole RowsLeft = ⊥
-
-abbrev numberIs : Outcome → ℕ
-numberIs done = 0
-numberIs (refused n xs) = n
-
-told-twelve : (x : Option Fault) (e : Refusal) → told e ≡ holed x → numberIs (told e) ≡ 12
-told-twelve None e h = cc
-told-twelve (Some f) e h = ap numberIs h
-
-pub refused-hole : (x : Option Fault) (e : Refusal) → told e ≡ holed x → (f : Fault) × (e ≡ Hole f)
-refused-hole x WrongMark h = absurd (omega (arith, told-twelve x WrongMark h))
-refused-hole x HeaderEnds h = absurd (omega (arith, told-twelve x HeaderEnds h))
-refused-hole x HeaderByte h = absurd (omega (arith, told-twelve x HeaderByte h))
-refused-hole x HeaderNumber h = absurd (omega (arith, told-twelve x HeaderNumber h))
-refused-hole x OutsideLimits h = absurd (omega (arith, told-twelve x OutsideLimits h))
-refused-hole x DoesNotFit h = absurd (omega (arith, told-twelve x DoesNotFit h))
-refused-hole x NotInside h = absurd (omega (arith, told-twelve x NotInside h))
-refused-hole x BufferTooShort h = absurd (omega (arith, told-twelve x BufferTooShort h))
-refused-hole x (Hole f) h = (f, refl)
-refused-hole x OtherWriter h = absurd (omega (arith, told-twelve x OtherWriter h))
-refused-hole x NoTile h = absurd (omega (arith, told-twelve x NoTile h))
-refused-hole x NoRows h = absurd (omega (arith, told-twelve x NoRows h))
-refused-hole x RowsLeft h = absurd (omega (arith, told-twelve x RowsLeft h))
 
 module _ {K S : Type 0} (o : Ops K S) (i : Image K) (r : Rect) where
   pub asked-answer : (n : ℕ) (x : Outcome) → Inside r (i .width) (i .height) → area r ≤ n → x ≡ answer i r n → x ≡ holed (firstFault (nth i r) (area r))
@@ -118,9 +37,6 @@ module _ {K S : Type 0} (o : Ops K S) (i : Image K) (r : Rect) where
 
   pub asked-ok : (n : ℕ) → Inside r (i .width) (i .height) → area r ≤ n → done ≡ answer i r n → firstFault (nth i r) (area r) ≡ None
   asked-ok n at room h = done-none _ (asked-answer n done at room h)
-
-  pub asked-hole : (n : ℕ) (f : Fault) → Inside r (i .width) (i .height) → area r ≤ n → outcome (Err (Hole f)) ≡ answer i r n → Err f ≡ firstIn (nth i r) (area r)
-  asked-hole n f at room h = ap orFault (sym (hole-some _ f (asked-answer n _ at room h)))
 
   coded-clean : (p : Place K) → faultOf p ≡ None → coded o p ≡ Some (codeAt o p)
   coded-clean (pixel k) e = refl

@@ -1,11 +1,10 @@
 -- A step over a picture within its limits is within them.
-use mathlib.Core.Path.{_≡_, refl, sym, _∙_, ap, subst}
+use mathlib.Core.Path.{_≡_, ap}
 use mathlib.Core.Bool.{Bool, true, false, cond, _&&_}
-use Prim.Native.Nat.{ℕ, zero, suc, _+_, _-_, _*_, _/_, _%_, _<_, _≤_, min}
-use native.Mathlib.Nat.{add-mul, div-le-self, mul-comm}
+use Prim.Native.Nat.{ℕ, _+_, _-_, _*_, _/_, _%_, _<_, _≤_}
+use native.Mathlib.Nat.{div-le-self, mul-comm}
 use native.Mathlib.Omega.{arith}
 use borrow.Author.Needs.{needs}
-use lib.Dec.{leb}
 use lib.IntN.{ℤ, pos, negsuc, _-ℤ_}
 use Rattle.std.proofs.shelf.Bits.{div-below, le-div, mod-below}
 use Rattle.std.specs.declared.option.Option.{Option}
@@ -18,10 +17,9 @@ use Rattle.picture.specs.declared.step.Axis.the-variants.{Horizontal, Vertical}
 use Rattle.picture.specs.declared.step.Turn.the-variants.{D90, D270}
 use Rattle.picture.specs.declared.step.Step.{Step}
 use Rattle.picture.specs.declared.step.Step.the-variants.{Same, Crop, Embed, Flip, Rot, Shrink, Conv}
-use Rattle.picture.specs.Compose.{Composed, composed, layered, stepped, taken, unless}
+use Rattle.picture.specs.Compose.{Composed, layered, stepped, taken, unless}
 use Rattle.picture.specs.Images.{Bounded, Dim, Image, Model, Sized}
 use Rattle.picture.specs.Limits.{largest}
-use Rattle.picture.specs.Places.{Place, pixel, hole}
 use Rattle.picture.specs.Region.{needed}
 use Rattle.picture.specs.Steps.{Formula, black, white, copied, mixed, allowed, among, fitting, formula, groundOf, grounded, heightOf, nearest, widthOf}
 use Rattle.layer.proofs.Stepping.{boxes-inside}

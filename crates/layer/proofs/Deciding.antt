@@ -1,16 +1,16 @@
 -- What stands at a place is decided by the places that it needs.
-use mathlib.Core.Path.{_≡_, refl, sym, _∙_, ap}
+use mathlib.Core.Path.{_≡_, refl, _∙_, ap}
 use mathlib.Core.List.{List, [], _∷_}
-use Prim.Native.Nat.{ℕ, _<_}
+use Prim.Native.Nat.{ℕ}
 use Rattle.pixel.specs.Ops.{Ops}
 use Rattle.picture.specs.declared.step.Step.{Step}
-use Rattle.picture.specs.Compose.{composed, pixelOr, stepped, summed, taken, tapped, unless}
+use Rattle.picture.specs.Compose.{composed, pixelOr, summed, taken, tapped, unless}
 use Rattle.picture.specs.Images.{Image}
 use Rattle.picture.specs.Places.{Place, firstFault}
 use Rattle.picture.specs.Region.{needed, region}
 use Rattle.picture.specs.Steps.{Formula, black, white, copied, mixed, formula, heightOf, widthOf}
 use Rattle.picture.proofs.Faults.{first-same}
-use Rattle.layer.specs.Laws.{AlikeAt, RegionDecides}
+use Rattle.layer.specs.Laws.{RegionDecides}
 use Rattle.layer.proofs.Summing.{summed-same}
 
 needed-map : (φ : Formula) (P Q : ℕ → ℕ → Type 0) → ((x y : ℕ) → P x y → Q x y) → needed φ P → needed φ Q

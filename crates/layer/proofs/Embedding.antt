@@ -1,8 +1,8 @@
 -- What an embedding shows of a part.
 use mathlib.Core.Path.{_≡_, refl, sym, _∙_, ap, subst}
 use mathlib.Core.Bool.{Bool, true, false, cond, not, _&&_}
-use mathlib.Core.Logic.{_⊎_, inl, inr, ⊎-elim}
-use Prim.Native.Nat.{ℕ, zero, suc, _+_, _-_, _*_, _<_, _≤_}
+use mathlib.Core.Logic.{_⊎_, inl, inr}
+use Prim.Native.Nat.{ℕ, _+_, _-_, _*_, _<_, _≤_}
 use native.Mathlib.Omega.{arith}
 use lib.IntN.{ℤ, pos, _-ℤ_}
 use Rattle.std.specs.declared.option.Option.{Option}
@@ -10,12 +10,12 @@ use Rattle.std.specs.declared.option.Option.the-variants.{Some, None}
 use Rattle.picture.specs.declared.rect.Rect.{Rect}
 use Rattle.picture.specs.declared.step.Ground as declared
 use Rattle.picture.specs.declared.step.Ground.the-variants as ground
-use Rattle.picture.specs.Steps.{Formula, black, white, copied, among, nearest, grounded, embedded}
+use Rattle.picture.specs.Steps.{Formula, copied, among, nearest, embedded}
 use Rattle.layer.specs.declared.spread.Spread.{Spread}
 use Rattle.layer.specs.declared.aim.Carry.{Carry}
 use Rattle.layer.specs.declared.aim.Aim.the-variants as aim
-use Rattle.layer.specs.Aims.{Aims, Carried, Copies, Each, Ground, Inside, Needless}
-use Rattle.layer.specs.Spreads.{Falls, Parted, Spreads, beside}
+use Rattle.layer.specs.Aims.{Aims, Carried, Ground, Needless}
+use Rattle.layer.specs.Spreads.{Falls, Spreads, beside}
 use Rattle.layer.proofs.Aiming.{copies-spread}
 
 -- it shows the picture's nearest place
@@ -27,25 +27,10 @@ shows-in true true f g p q = refl
 shows-in true false f g p q = cc
 shows-in false b f g p q = cc
 
-shows-out : (a b : Bool) (f g : Formula) → (a ≡ false) ⊎ (b ≡ false) → cond (a && b) f g ≡ g
-shows-out false b f g h = refl
-shows-out true false f g h = refl
-shows-out true true f g (inl h) = cc
-shows-out true true f g (inr h) = cc
-
 shows-both : (a b : Bool) (f : Formula) → cond (a && b) f f ≡ f
 shows-both true true f = refl
 shows-both true false f = refl
 shows-both false b f = refl
-
--- all places lie beside the picture below
-all-beside : (s : Option Spread) (u : ℕ) (x : ℤ) (n m : ℕ) → Spreads s u x n m → beside s ≡ true → (i : ℕ) → i < n → among (pos (u + i) -ℤ x) m ≡ false
-all-beside None u x n m h e i l = cc
-all-beside (Some s) u x n m h e i l = h .side i l ∙ flip (s .inside) e
-  where
-    flip : (b : Bool) → not b ≡ true → b ≡ false
-    flip true e = sym e
-    flip false e = refl
 
 -- not all of them do
 one-inside : (s : Option Spread) (u : ℕ) (x : ℤ) (n m : ℕ) → 1 ≤ n → Spreads s u x n m → beside s ≡ false → (i : ℕ) × (i < n) × (among (pos (u + i) -ℤ x) m ≡ true)
@@ -66,16 +51,6 @@ module _ (x y : ℤ) (W H : ℕ) (p : Rect) where
   -- the formula of an embedding's place
   abbrev pub placing : declared.Ground → ℕ → ℕ → Formula
   placing g u v = embedded g W H (pos u -ℤ x) (pos v -ℤ y)
-
-  pub beside-ground : (a b : Option Spread) (g : declared.Ground) → Spreads a (p .left) x (p .width) W → Spreads b (p .top) y (p .height) H → (beside a ≡ true) ⊎ (beside b ≡ true)
-      → (i j : ℕ) → i < p .width → j < p .height → placing g (p .left + i) (p .top + j) ≡ grounded g W H (pos (p .left + i) -ℤ x) (pos (p .top + j) -ℤ y)
-  beside-ground a b g ha hb h i j li lj =
-      shows-out _ _ _ _ (⊎-elim (λ e. inl (all-beside a (p .left) x (p .width) W ha e i li)) (λ e. inr (all-beside b (p .top) y (p .height) H hb e j lj)) h)
-
-  pub is-beside : (a b : Option Spread) (g k : declared.Ground) (f : Formula) → g ≡ k → grounded k W H ≡ (λ _ _. f) → Spreads a (p .left) x (p .width) W → Spreads b (p .top) y (p .height) H → (beside a ≡ true) ⊎ (beside b ≡ true)
-      → Each (placing g) p (λ i j z. z ≡ f)
-  is-beside a b g k f e z ha hb h i j li lj =
-      beside-ground a b g ha hb h i j li lj ∙ ap (λ q. grounded q W H (pos (p .left + i) -ℤ x) (pos (p .top + j) -ℤ y)) e ∙ ap (λ q. q (pos (p .left + i) -ℤ x) (pos (p .top + j) -ℤ y)) z
 
   -- where the ground copies, or the part does not lie beside, its places show the nearest one
   abbrev pub Shows : Option Spread → Option Spread → declared.Ground → Type 0

@@ -1,16 +1,13 @@
 -- Which of some places is the first hole.
 use mathlib.Core.Path.{_≡_, refl, sym, _∙_, ap, subst}
-use mathlib.Core.Logic.{_⊎_, inl, inr, ⊎-elim}
-use Prim.Native.Nat.{ℕ, zero, suc, _+_, _-_, _*_, _/_, _%_, _<_, _≤_}
-use native.Mathlib.Nat.{mul-comm}
+use mathlib.Core.Logic.{_⊎_, ⊎-elim}
+use Prim.Native.Nat.{ℕ, zero, suc, _-_, _<_}
 use native.Mathlib.Omega.{arith}
 use borrow.Author.Needs.{needs}
 use Rattle.std.specs.declared.option.Option.{Option}
 use Rattle.std.specs.declared.option.Option.the-variants.{Some, None}
-use Rattle.std.proofs.shelf.Bits.{div-mul-add, mod-mul-add, mul-add-lt, div-below, mod-below, div-add-mod'}
 use Rattle.picture.specs.declared.fault.Fault.{Fault}
-use Rattle.picture.specs.Places.{Place, pixel, hole, faultOf, orElse, firstFault}
-use Rattle.picture.specs.Compose.{pixelOr}
+use Rattle.picture.specs.Places.{Place, faultOf, orElse, firstFault}
 
 below-suc : (k n : ℕ) → k < suc n → (k < n) ⊎ (k ≡ n)
 below-suc k n h = search needs
@@ -29,10 +26,6 @@ none-each f (suc n) e k h =
 pub each-none : {K : Type 0} (f : ℕ → Place K) (n : ℕ) → ((k : ℕ) → k < n → faultOf (f k) ≡ None) → firstFault f n ≡ None
 each-none f zero h = refl
 each-none f (suc n) h = ap (λ x. orElse x (faultOf (f n))) (each-none f n (λ k lt. h k (omega arith))) ∙ h n (omega arith)
-
-pub pixel-is : {K : Type 0} (d : K) (p : Place K) → faultOf p ≡ None → p ≡ pixel (pixelOr d p)
-pixel-is d (pixel k) e = refl
-pixel-is d (hole f) e = let z : _≡_ {A = ℕ} 0 1 = cc in absurd (omega arith)
 
 -- the first hole among n places, and its fault
 pub record First {K : Type 0} (f : ℕ → Place K) (n : ℕ) (e : Fault) : Type 0 where

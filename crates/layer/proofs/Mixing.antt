@@ -1,14 +1,12 @@
 -- What a window over a prepared region comes to.
-use mathlib.Core.Path.{_≡_, refl, sym, _∙_, ap, subst}
+use mathlib.Core.Path.{_≡_, sym, _∙_, ap}
 use mathlib.Core.List.{List}
 use mathlib.Core.Logic.{_⊎_, inl, inr, ⊎-elim}
-use Prim.Native.Nat.{ℕ, zero, suc, _+_, _-_, _*_, _/_, _%_, _<_, _≤_, min}
+use Prim.Native.Nat.{ℕ, _+_, _-_, _*_, _/_, _%_, _<_, _≤_}
 use native.Mathlib.Nat.{mul-comm, mul-le-mul-right, add-mul, one-mul}
 use native.Mathlib.Omega.{arith}
 use borrow.Author.Needs.{needs}
 use lib.IntN.{ℤ}
-use lib.ListN.{getD}
-use Rattle.std.specs.declared.option.Option.{Option}
 use Rattle.std.specs.declared.option.Option.the-variants.{Some, None}
 use Rattle.std.proofs.shelf.Bits.{div-mul-add, mod-mul-add, mul-add-lt, div-below, mod-below, div-add-mod'}
 use Rattle.pixel.specs.Ops.{Ops}
@@ -16,17 +14,17 @@ use Rattle.picture.specs.declared.fault.Fault.{Fault}
 use Rattle.picture.specs.declared.rect.Rect.{Rect}
 use Rattle.picture.specs.Compose.{pixelOr, summed, taken, tapped, unless}
 use Rattle.picture.specs.Images.{Image}
-use Rattle.picture.specs.Places.{Place, pixel, hole, faultOf, firstFault}
-use Rattle.picture.specs.Prepare.{Shown, area, coded, nth}
+use Rattle.picture.specs.Places.{pixel, hole, faultOf, firstFault}
+use Rattle.picture.specs.Prepare.{Shown, area, nth}
 use Rattle.picture.specs.Region.{Within}
 use Rattle.picture.specs.Steps.{Tap, Formula, black, white, copied, mixed}
 use Rattle.picture.proofs.Faults.{first-same, shown-clean}
 use Rattle.layer.specs.declared.aim.Carry.{Carry}
 use Rattle.layer.specs.declared.aim.Lens.{Lens}
-use Rattle.layer.specs.Aims.{Carried, Fair, Mixed, Mixes, Stops, lensColumn, lensPixel, lensRow, lensSpot, spot, walked}
+use Rattle.layer.specs.Aims.{Carried, Mixed, Mixes, lensColumn, lensPixel, lensRow, lensSpot, spot, walked}
 use Rattle.layer.proofs.Asking.{reads-pixel}
 use Rattle.layer.proofs.Holes.{Covers, each-none, first-covered, none-each}
-use Rattle.layer.proofs.Reading.{column-inside, row-inside, spot-at, spot-inside}
+use Rattle.layer.proofs.Reading.{column-inside, spot-at, spot-inside}
 use Rattle.layer.proofs.Summing.{summed-same}
 
 -- the place that stands at a spot

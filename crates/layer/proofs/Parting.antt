@@ -1,5 +1,5 @@
 -- A part of a step, by the ways that make it.
-use mathlib.Core.Path.{_≡_, refl, sym, _∙_, ap, subst}
+use mathlib.Core.Path.{_≡_, sym, _∙_, ap, subst}
 use mathlib.Core.List.{List}
 use Prim.Native.Nat.{ℕ, _+_, _-_, _*_, _<_, _≤_}
 use native.Mathlib.Omega.{arith}
@@ -16,8 +16,8 @@ use Rattle.picture.specs.Prepare.{Shown, area, coded, nth}
 use Rattle.picture.specs.Steps.{Formula, black, white, copied, mixed, formula}
 use Rattle.layer.specs.declared.aim.Carry.{Carry}
 use Rattle.layer.specs.declared.aim.Lens.{Lens}
-use Rattle.layer.specs.Aims.{Carried, Each, Ground, Mixed, Needless, Readable, Steady, Few, lensPixel, walked}
-use Rattle.layer.specs.Laid.{Among, Laid, Part, Shows}
+use Rattle.layer.specs.Aims.{Carried, Each, Ground, Mixed, Needless, Readable, Few, lensPixel, walked}
+use Rattle.layer.specs.Laid.{Laid, Shows}
 use Rattle.layer.specs.Layers.{Stands}
 use Rattle.layer.proofs.Asking.{reads-some}
 use Rattle.layer.proofs.Laying.{laid-as}

@@ -1,8 +1,8 @@
 -- A step that stands over a picture whose size the layer keeps.
-use mathlib.Core.Path.{_≡_, refl, sym, _∙_, ap, subst}
+use mathlib.Core.Path.{_≡_, sym, _∙_, ap, subst}
 use mathlib.Core.Bool.{true}
 use mathlib.Core.List.{List, [], _∷_}
-use Prim.Native.Nat.{ℕ, zero, suc, _+_, _-_, _*_, _<_, _≤_}
+use Prim.Native.Nat.{ℕ, zero, suc, _+_, _-_, _*_, _≤_}
 use native.Mathlib.Nat.{add-suc, add-zero}
 use native.Mathlib.Omega.{arith}
 use lib.IntN.{ℤ, pos, natAbs}
@@ -21,7 +21,7 @@ use Rattle.picture.specs.Steps.{Formula, black, white, copied, mixed, fitting, 
 use Rattle.layer.specs.declared.aim.Lens.{Lens}
 use Rattle.layer.specs.declared.layer.Layer.{Layer}
 use Rattle.layer.specs.Aims.{Few, Inside, Mixed}
-use Rattle.layer.specs.Layers.{Kept, Sound, Stands, modelOf, raised}
+use Rattle.layer.specs.Layers.{Kept, Stands, modelOf, raised}
 
 module _ {K : Type 0} (b : Image K) (s : Step) (z : Size) where
   -- a place's formula over the size that is kept
@@ -105,8 +105,3 @@ module _ {P K S : Type 0} (o : Ops K S) (model : P → Model K) (count : P → �
 
   pub kept-shows : (l m : Layer P) → Kept o model count l m → modelOf o model l ≡ modelOf o model m
   kept-shows l m k = ap (λ s. layered o s (model (l .below))) (k .step) ∙ ap (layered o (m .step)) (k .shows)
-
-  pub kept-stands : (l m : Layer P) → Kept o model count l m → Stands (model (l .below) .shown) (l .step) (l .size) → Stands (model (m .below) .shown) (m .step) (m .size)
-  kept-stands l m k h =
-      subst (λ (z : Size). Stands (model (m .below) .shown) (m .step) z) (k .size)
-      (subst (λ (s : Step). Stands (model (m .below) .shown) s (l .size)) (k .step) (subst (λ (x : Model K). Stands (x .shown) (l .step) (l .size)) (k .shows) h))

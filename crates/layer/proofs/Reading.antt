@@ -1,10 +1,8 @@
 -- Places of a region by column and row.
-use mathlib.Core.Path.{_≡_, refl, sym, _∙_, ap, subst}
-use Prim.Native.Nat.{ℕ, zero, suc, _+_, _-_, _*_, _/_, _%_, _<_, _≤_, min}
-use native.Mathlib.Nat.{mul-comm}
+use mathlib.Core.Path.{_≡_, _∙_, ap}
+use Prim.Native.Nat.{ℕ, _+_, _-_, _*_, _/_, _%_, _<_, _≤_, min}
 use native.Mathlib.Omega.{arith}
-use Rattle.std.proofs.shelf.Bits.{div-mul-add, mod-mul-add, mul-add-lt, div-below, mod-below}
-use Rattle.picture.specs.declared.rect.Rect.{Rect}
+use Rattle.std.proofs.shelf.Bits.{div-mul-add, mod-mul-add, mul-add-lt}
 use Rattle.picture.specs.Prepare.{area}
 use Rattle.layer.specs.declared.aim.Lens.{Lens}
 use Rattle.layer.specs.Aims.{lensColumn, lensRow, lensSpot}

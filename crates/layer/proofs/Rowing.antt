@@ -1,22 +1,21 @@
 -- A row, place by place.
-use mathlib.Core.Path.{_≡_, refl, sym, _∙_, ap, subst}
+use mathlib.Core.Path.{_≡_, sym, _∙_, ap}
 use mathlib.Core.List.{List}
-use mathlib.Core.Logic.{_⊎_, inl, inr, ⊎-elim, _≢_}
-use Prim.Native.Nat.{ℕ, zero, suc, _+_, _-_, _<_, _≤_}
-use native.Mathlib.Numerals.{add-one}
+use mathlib.Core.Logic.{_⊎_, ⊎-elim, _≢_}
+use Prim.Native.Nat.{ℕ, _+_, _-_, _<_}
 use native.Mathlib.Omega.{arith}
 use borrow.Author.Needs.{needs}
 use lib.ListN.{getD, length, set}
 use Rattle.std.proofs.shelf.Lists.{getD-set-same, getD-set-other}
-use Rattle.std.specs.declared.option.Option.the-variants.{Some, None}
+use Rattle.std.specs.declared.option.Option.the-variants.{Some}
 use Rattle.std.specs.declared.result.Result.the-variants.{Ok, Err}
 use Rattle.pixel.specs.Ops.{Ops}
 use Rattle.picture.specs.declared.fault.Fault.{Fault}
-use Rattle.picture.specs.Places.{Place, pixel, hole, faultOf, firstFault}
+use Rattle.picture.specs.Places.{Place, pixel, hole, faultOf}
 use Rattle.picture.specs.Prepare.{Shown, coded, firstIn, orFault}
 use Rattle.picture.proofs.Faults.{shown-clean}
 use Rattle.layer.specs.Layers.{located}
-use Rattle.layer.proofs.Holes.{First, none-each, some-first}
+use Rattle.layer.proofs.Holes.{none-each, some-first}
 
 module _ {K S : Type 0} (o : Ops K S) where
   pub located-coded : (p : Place K) (c : ℕ) → Ok c ≡ located o p → coded o p ≡ Some c

@@ -1,5 +1,5 @@
 -- A prepare of a layer, by pieces or by rows.
-use mathlib.Core.Path.{_≡_, refl, sym, _∙_, ap, subst}
+use mathlib.Core.Path.{_≡_, sym, _∙_, ap}
 use mathlib.Core.List.{List, [], _++_, map}
 use Prim.Native.Nat.{ℕ, zero, suc, _+_, _-_, _*_, _/_, _%_, _^_, _<_, _≤_}
 use native.Mathlib.Nat.{mul-comm}
@@ -15,8 +15,8 @@ use Rattle.picture.specs.declared.fault.Fault.{Fault}
 use Rattle.picture.specs.declared.rect.Rect.{Rect}
 use Rattle.picture.specs.Images.{Image}
 use Rattle.picture.specs.Places.{firstFault}
-use Rattle.picture.specs.Prepare.{Shown, answer, area, codeAt, coded, filled, holed, nth, put, up}
-use Rattle.picture.specs.Refusals.{Outcome, done, refused, faultValues}
+use Rattle.picture.specs.Prepare.{Shown, answer, area, codeAt, filled, holed, nth, put}
+use Rattle.picture.specs.Refusals.{Outcome, done, refused}
 use Rattle.picture.proofs.Faults.{shown-clean}
 use Rattle.picture.proofs.Serving.{answer-is, filled-is, whole}
 use Rattle.layer.specs.Aims.{spot}

@@ -1,6 +1,6 @@
 -- The ways to make a part make what the steps' formulas ask for.
 use mathlib.Core.Path.{_≡_, refl, sym, _∙_, ap, subst}
-use Prim.Native.Nat.{ℕ, _+_, _-_, _*_, _/_, _%_, _<_, _≤_, min}
+use Prim.Native.Nat.{ℕ, _+_, _-_, _*_, _/_, _%_, _≤_}
 use native.Mathlib.Nat.{add-zero, add-mul, div-mul-le-self, mul-comm, mul-le-mul-right}
 use native.Mathlib.Omega.{arith}
 use lib.IntN.{ℤ, pos, _-ℤ_}
@@ -20,7 +20,7 @@ use Rattle.layer.specs.declared.aim.Aim.{Aim}
 use Rattle.layer.specs.declared.aim.Aim.the-variants as aim
 use Rattle.layer.specs.declared.aim.Carry.{Carry}
 use Rattle.layer.specs.declared.aim.Lens.{Lens}
-use Rattle.layer.specs.Aims.{Aims, Boxes, Copies, Flips, Frames, Inside, Mixes, Stops, Turns, Windows, lensColumn, lensRow}
+use Rattle.layer.specs.Aims.{Aims, Boxes, Copies, Flips, Inside, Turns, Windows, lensColumn, lensRow}
 
 pub as-step : (a : Aim) (s t : Step) (W H : ℕ) (p : Rect) → s ≡ t → Aims a (formula t W H) W H p → Aims a (formula s W H) W H p
 as-step a s t W H p e h = subst (λ (z : Step). Aims a (formula z W H) W H p) (sym e) h

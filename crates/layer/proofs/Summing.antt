@@ -6,7 +6,7 @@ use native.Mathlib.Nat.{add-zero, add-suc, mul-comm}
 use native.Mathlib.Numerals.{add-one}
 use native.Mathlib.Omega.{arith}
 use Rattle.std.specs.declared.option.Option.{Option}
-use Rattle.std.specs.declared.option.Option.the-variants.{Some, None}
+use Rattle.std.specs.declared.option.Option.the-variants.{Some}
 use Rattle.pixel.specs.Ops.{Ops}
 use Rattle.picture.specs.Compose.{summed}
 use Rattle.layer.specs.Sums.{orBlack, downward, columned}

@@ -16,13 +16,12 @@ use Rattle.picture.specs.declared.step.Ground as declared
 use Rattle.picture.specs.declared.step.Ground.the-variants as ground
 use Rattle.picture.specs.declared.step.Axis.the-variants.{Horizontal, Vertical}
 use Rattle.picture.specs.declared.step.Turn.the-variants.{D90, D270}
-use Rattle.picture.specs.declared.step.Step.{Step}
 use Rattle.picture.specs.declared.step.Step.the-variants.{Same, Crop, Embed, Flip, Rot, Shrink, Conv}
-use Rattle.picture.specs.Compose.{stepped, taken, tapped, unless}
+use Rattle.picture.specs.Compose.{taken, tapped, unless}
 use Rattle.picture.specs.Images.{Image}
 use Rattle.picture.specs.Places.{Place, pixel, hole, faultOf, firstFault}
-use Rattle.picture.specs.Steps.{Tap, Formula, black, white, copied, mixed, among, formula, groundOf, grounded, nearest}
-use Rattle.layer.specs.Laws.{FirstHole, FirstHoleTold, Names, NoLater}
+use Rattle.picture.specs.Steps.{Tap, copied, mixed, among, groundOf, grounded, nearest}
+use Rattle.layer.specs.Laws.{FirstHole, FirstHoleTold, NoLater}
 use Rattle.layer.proofs.Holes.{First, first-some}
 
 abbrev Rises : (ℕ → ℕ) → Type 0

@@ -1,6 +1,6 @@
 ghost use mathlib.Core.Path.{_≡_};
 ghost use mathlib.Core.Bool.{true};
-ghost use Prim.Native.Nat.{ℕ, _+_, _-_, _*_, _≤_, _<_};
+ghost use Prim.Native.Nat.{_+_, _-_, _*_, _≤_, _<_};
 ghost use lib.IntN.{natAbs, pos, _-ℤ_};
 ghost use Rattle.picture.specs.Limits.{largest};
 ghost use Rattle.picture.specs.Steps.{allowed, embedded, fitting, formula, heightOf, widthOf};

@@ -1,9 +1,6 @@
 ghost use mathlib.Core.Path.{_≡_};
-ghost use mathlib.Core.Bool.{true};
 ghost use Prim.Native.Nat.{ℕ, _+_, _*_, _<_, _≤_};
-ghost use lib.IntN.{ℤ, natAbs};
-ghost use lib.ListN.{length};
-ghost use Rattle.std.specs.Options.{isSome};
+ghost use lib.IntN.{natAbs};
 ghost use Rattle.picture.specs.Compose.{summed};
 ghost use Rattle.layer.specs.Aims.{Readable, lensPixel};
 ghost use Rattle.layer.specs.Sums.{downward};

@@ -1,5 +1,5 @@
 ghost use mathlib.Core.Path.{_≡_};
-ghost use Prim.Native.Nat.{ℕ, _<_};
+ghost use Prim.Native.Nat.{_<_};
 ghost use Rattle.layer.specs.Layers.{Kept, Sound, located, modelOf};
 use crate::aim::Aim;
 use crate::aims::aim;

@@ -1,5 +1,3 @@
-ghost use mathlib.Core.Path.{_≡_};
-ghost use Prim.Native.Nat.{ℕ};
 ghost use Rattle.picture.specs.Prepare.{Prepared};
 ghost use Rattle.picture.specs.Refusals.{outcome};
 ghost use Rattle.picture.specs.Steps.{formula};

@@ -1,5 +1,4 @@
-ghost use mathlib.Core.Path.{_≡_};
-ghost use Prim.Native.Nat.{ℕ, _+_, _≤_};
+ghost use Prim.Native.Nat.{_+_, _≤_};
 ghost use lib.IntN.{natAbs};
 ghost use Rattle.picture.specs.Limits.{largest};
 ghost use Rattle.layer.specs.Spreads.{Spreads, Reaches};

@@ -1,15 +1,11 @@
 use borrow.Author.Needs.{needs}
 use native.Mathlib.Omega.{arith}
-use Prim.Native.Nat.{ℕ, _+_, _*_, _/_, _≤_}
-use mathlib.Core.Path.{_≡_, refl, sym, _∙_, ap, subst}
-use lib.IntN.{ℤ, pos, _-ℤ_}
+use Prim.Native.Nat.{_+_, _/_, _≤_}
 use mir.Val.{SFits}
 use mir.Syntax.{w32}
 use mir.Facts.{toZ-ofZ}
 use Rattle.picture.specs.declared.step.Step.the-variants.{Same, Crop, Embed, Flip, Rot, Shrink, Conv}
-use Rattle.picture.specs.Steps.{embedded}
 use Rattle.layer.specs.declared.aim.Aim.the-variants as aim
-use Rattle.layer.specs.Aims.{Aims}
 use Rattle.layer.proofs.Stepping.{aims-conv, aims-crop, aims-embed, aims-flip, aims-moved, aims-rot, aims-same, aims-shrink, as-step, boxes-inside}
 use Rattle.layer.proofs.aims.aim.Needs as need
 

@@ -1,5 +1,4 @@
-use mathlib.Core.Path.{_≡_, refl, sym, subst}
-use native.Mathlib.Omega.{arith}
+use mathlib.Core.Path.{refl}
 use Rattle.std.proofs.shelf.Bits.{mul-le}
 use Rattle.layer.proofs.Aiming.{frames-boxes}
 use Rattle.layer.proofs.aims.boxes.Needs as need

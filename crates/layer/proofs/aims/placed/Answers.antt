@@ -1,12 +1,11 @@
 use borrow.Author.Needs.{needs}
-use mathlib.Core.Path.{_≡_, refl, sym, _∙_, ap, subst}
+use mathlib.Core.Path.{refl, sym, _∙_, ap}
 use mathlib.Core.Logic.{inl, inr}
-use lib.IntN.{ℤ}
 use mir.Val.{SFits}
 use mir.Syntax.{w32}
 use mir.Facts.{toZ-ofZ}
-use Rattle.std.specs.declared.option.Option.the-variants.{Some, None}
-use Rattle.layer.specs.Spreads.{Spreads, beside}
+use Rattle.std.specs.declared.option.Option.the-variants.{Some}
+use Rattle.layer.specs.Spreads.{beside}
 use Rattle.layer.proofs.Embedding.{Shows, is-copy, is-edge, spreads-moved, spread-some}
 use Rattle.layer.proofs.aims.placed.Needs as need
 use Rattle.layer.proofs.aims.placed.Needs.{then-is-beside·in-Copy, else-is-beside·else-is-beside-2}

@@ -1,7 +1,6 @@
-use borrow.Author.Needs.{needs}
-use mathlib.Core.Path.{_≡_, refl, sym, _∙_, ap, subst}
+use mathlib.Core.Path.{sym, ap}
 use Rattle.picture.specs.Prepare.{orFault}
-use Rattle.layer.proofs.Asking.{asked-answer, asked-ok, asked-hole, asked-shown, refused-hole}
+use Rattle.layer.proofs.Asking.{asked-ok, asked-shown}
 use Rattle.layer.proofs.ask.ask.Needs as need
 
 pub returns-in-Ok : need.returns-in-Ok

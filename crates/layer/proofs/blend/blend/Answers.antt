@@ -1,16 +1,14 @@
 use borrow.Author.Needs.{needs}
-use mathlib.Core.Path.{_≡_, refl, sym, _∙_, ap, subst}
+use mathlib.Core.Path.{sym, _∙_, ap}
 use native.Mathlib.Omega.{arith}
-use Prim.Native.Nat.{ℕ, _*_, _<_, _≤_}
-use lib.IntN.{ℤ}
-use lib.ListN.{length}
+use Prim.Native.Nat.{_*_, _≤_}
 use mir.Val.{SFits}
 use mir.Syntax.{w32}
 use mir.Facts.{toZ-ofZ}
-use Rattle.std.specs.declared.result.Result.the-variants.{Ok, Err}
+use Rattle.std.specs.declared.result.Result.the-variants.{Ok}
 use Rattle.std.proofs.shelf.Bits.{mul-le}
 use Rattle.picture.specs.Compose.{summed}
-use Rattle.picture.specs.Prepare.{area, nth}
+use Rattle.picture.specs.Prepare.{nth}
 use Rattle.picture.proofs.Faults.{fault-of-err}
 use Rattle.layer.specs.Aims.{lensPixel}
 use Rattle.layer.specs.Layers.{located}

@@ -1,9 +1,4 @@
-use borrow.Author.Needs.{needs}
-use mathlib.Core.Path.{_≡_, refl, sym, _∙_, ap, subst}
-use native.Mathlib.Omega.{arith}
-use Prim.Native.Nat.{ℕ, _<_, _≤_}
-use lib.ListN.{length}
-use Rattle.picture.specs.Prepare.{area, nth}
+use mathlib.Core.Path.{sym, _∙_, ap}
 use Rattle.layer.specs.Layers.{located}
 use Rattle.layer.proofs.Asking.{single-hole, single-shown}
 use Rattle.layer.proofs.Mixing.{carried-place}

@@ -1,4 +1,4 @@
-use mathlib.Core.Path.{_≡_, refl, sym, _∙_, ap, subst}
+use mathlib.Core.Path.{refl, _∙_}
 use native.Mathlib.Omega.{arith}
 use Rattle.layer.proofs.Laying.{laid-above, laid-no-rows}
 use Rattle.layer.proofs.draws.lay.Needs as need

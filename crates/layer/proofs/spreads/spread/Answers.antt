@@ -1,9 +1,6 @@
-use borrow.Author.Needs.{needs}
-use mathlib.Core.Path.{_≡_, refl, sym, _∙_, ap, subst}
 use native.Mathlib.Omega.{arith}
 use borrow.Author.Differences.{ints}
 use lib.IntN.{pos, natAbs, _-ℤ_}
-use lib.Signed.{_≤ℤ_, _<ℤ_}
 use Rattle.layer.proofs.Spreading.{falls-inside, falls-before, falls-behind, parted-at}
 use Rattle.layer.proofs.spreads.spread.Needs as need
 use Rattle.layer.proofs.spreads.spread.Needs.{else-start-ge0·by·then-start-ge0·else-end-side, else-start-ge0·by·else-start-ge0}

@@ -1,8 +1,6 @@
-use mathlib.Core.Path.{_≡_, refl, sym, _∙_, ap, subst}
+use mathlib.Core.Path.{_≡_, refl, sym, _∙_, ap}
 use native.Mathlib.Omega.{arith}
-use Prim.Native.Nat.{ℕ, _+_, _<_, _≤_}
-use Rattle.std.specs.declared.option.Option.the-variants.{Some}
-use Rattle.picture.specs.Prepare.{coded}
+use Prim.Native.Nat.{ℕ}
 use Rattle.layer.proofs.Laying.{laid-above, laid-height, laid-no-rows, laid-view}
 use Rattle.layer.proofs.Placing.{kept-follows, kept-none, kept-shows}
 use Rattle.layer.proofs.layer.Layer.exact.Needs as need

@@ -1,16 +1,16 @@
 use borrow.Author.Needs.{needs}
-use mathlib.Core.Path.{_≡_, refl, sym, _∙_, ap, subst}
+use mathlib.Core.Path.{refl, sym, _∙_, ap}
 use native.Mathlib.Omega.{arith}
-use Prim.Native.Nat.{ℕ, _+_, _*_, _<_, _≤_}
-use lib.IntN.{ℤ, pos}
-use lib.ListN.{getD, length}
+use Prim.Native.Nat.{_+_}
+use lib.IntN.{pos}
+use lib.ListN.{getD}
 use mir.Val.{SFits}
 use mir.Syntax.{w32}
 use mir.Facts.{toZ-ofZ}
 use Rattle.std.specs.declared.result.Result.the-variants.{Ok}
 use Rattle.picture.specs.Compose.{taken}
-use Rattle.picture.specs.Steps.{Formula, formula, kernel}
-use Rattle.layer.specs.Aims.{Lone, ones, weightsOf}
+use Rattle.picture.specs.Steps.{formula, kernel}
+use Rattle.layer.specs.Aims.{weightsOf}
 use Rattle.layer.specs.Layers.{located}
 use Rattle.layer.proofs.Placing.{kept-none, kept-one, light-mask, few-places, mask-scaled, mixed-as, stood, stood-inside, stood-still}
 use Rattle.layer.proofs.layer.Layer.place.Needs as need
