@@ -72,10 +72,11 @@ pub impl Kind for Colour as ColourKind {
     }
 
     fn empty() -> ColourSum {
+        let none = 0;
         ColourSum {
-            red: 0,
-            green: 0,
-            blue: 0,
+            red: none,
+            green: none,
+            blue: none,
         }
     }
 
