@@ -33,7 +33,11 @@ fn digits_before(heap: Global, bytes: &[u8], place: usize) -> Result<String, All
         digits = digits.saturating_add(1);
     }
     let mut text = String::new(heap);
-    for b in bytes.iter().take(place).skip(place.saturating_sub(digits)).take(12) {
+    for b in bytes
+        .iter()
+        .take(place)
+        .skip(place.saturating_sub(digits))
+        .take(12) {
         text.push(char::from(*b))?;
     }
     if digits > 12 {
@@ -50,22 +54,37 @@ fn refusal(heap: Global, mark: u8, bytes: &[u8], error: HeaderError) -> Result<S
         HeaderError::Mark => {
             let first = bytes.first().copied().unwrap_or(0);
             let second = bytes.get(1).copied().unwrap_or(0);
-            format!(heap, "refused {number}: the first two bytes are {first} and {second}, and not a mark, which is 80 and 53 (P5) or 80 and 54 (P6)\n")
+            format!(
+                heap,
+                "refused {number}: the first two bytes are {first} and {second}, and not a mark, which is 80 and 53 (P5) or 80 and 54 (P6)\n"
+            )
         }
         HeaderError::End { place } => {
             if place as usize == HEADER_LIMIT {
-                format!(heap, "refused {number}: the header does not end within its first {HEADER_LIMIT} bytes\n")
+                format!(
+                    heap,
+                    "refused {number}: the header does not end within its first {HEADER_LIMIT} bytes\n"
+                )
             } else {
-                format!(heap, "refused {number}: the header goes on at byte {place}, where the input ends\n")
+                format!(
+                    heap,
+                    "refused {number}: the header goes on at byte {place}, where the input ends\n"
+                )
             }
         }
         HeaderError::Byte { place } => {
             let byte = bytes.get(place as usize).copied().unwrap_or(0);
-            format!(heap, "refused {number}: byte {place} is {byte}, which cannot stand there in the header of a {name} picture\n")
+            format!(
+                heap,
+                "refused {number}: byte {place} is {byte}, which cannot stand there in the header of a {name} picture\n"
+            )
         }
         HeaderError::Number { place } => {
             let digits = digits_before(heap, bytes, place as usize)?;
-            format!(heap, "refused {number}: the number {digits} before byte {place} is not from 1 to {LIMIT}\n")
+            format!(
+                heap,
+                "refused {number}: the number {digits} before byte {place} is not from 1 to {LIMIT}\n"
+            )
         }
     }
 }
@@ -79,7 +98,10 @@ fn first_hole(heap: Global, fault: Option<Fault>) -> Result<String, AllocError> 
             let source = fault.source;
             let column = fault.column;
             let row = fault.row;
-            format!(heap, "first hole: cause {number} ({name}), source {source}, column {column}, row {row}\n")
+            format!(
+                heap,
+                "first hole: cause {number} ({name}), source {source}, column {column}, row {row}\n"
+            )
         }
     }
 }
@@ -95,7 +117,10 @@ fn holes(heap: Global, details: Details) -> Result<String, AllocError> {
     let above = survey.above;
     let others = survey.no_pixel;
     let first = first_hole(heap, survey.first)?;
-    format!(heap, "holes: {all}\n  1 missing byte: {missing}\n  2 unread byte: {unread}\n  3 sample above maxval: {above}\n  4 no pixel: {others}\n{first}")
+    format!(
+        heap,
+        "holes: {all}\n  1 missing byte: {missing}\n  2 unread byte: {unread}\n  3 sample above maxval: {above}\n  4 no pixel: {others}\n{first}"
+    )
 }
 
 fn samples(heap: Global, details: Details) -> Result<String, AllocError> {
@@ -121,7 +146,10 @@ fn picture(heap: Global, mark: u8, details: Details) -> Result<String, AllocErro
     let prepares = details.prepares;
     let samples = samples(heap, details)?;
     let holes = holes(heap, details)?;
-    format!(heap, "kind: {name} (P{digit})\nwidth: {width}\nheight: {height}\nmaxval: {maxval}\nheader: {header} bytes\npixels: {whole} of {places}\nprepares: {prepares}\n{samples}{holes}")
+    format!(
+        heap,
+        "kind: {name} (P{digit})\nwidth: {width}\nheight: {height}\nmaxval: {maxval}\nheader: {header} bytes\npixels: {whole} of {places}\nprepares: {prepares}\n{samples}{holes}"
+    )
 }
 
 /// What is told of a file: whole lines, the first of which says whether it is a picture.

@@ -42,48 +42,48 @@ or-twice (Some e) f g = refl
 
 lost-none : (s : Survey) (f : Fault) → s ≡ lost s 0 f
 lost-none s f =
-  ap (λ m. made (s .pixels) (s .range) m (s .unread) (s .above) (s .«no_pixel») (s .first)) (sym (add-zero (s .missing)))
-  ∙ ap (made (s .pixels) (s .range) (s .missing + 0) (s .unread) (s .above) (s .«no_pixel»)) (sym (or-none (s .first)))
+    ap (λ m. made (s .pixels) (s .range) m (s .unread) (s .above) (s .«no_pixel») (s .first)) (sym (add-zero (s .missing)))
+    ∙ ap (made (s .pixels) (s .range) (s .missing + 0) (s .unread) (s .above) (s .«no_pixel»)) (sym (or-none (s .first)))
 
 -- one more
 lost-more : (s : Survey) (n : ℕ) (f e : Fault) → e .cause ≡ Missing → (n ≡ 0 → e ≡ f) → faulted (Some e) (counted Missing (lost s n f)) ≡ lost s (suc n) f
 lost-more s zero f e c z =
-  let m : s .missing + 0 + 1 ≡ s .missing + 1 = omega arith in
-  ap (λ x. made (s .pixels) (s .range) x (s .unread) (s .above) (s .«no_pixel») (orElse (orElse (s .first) None) (Some e))) m
-  ∙ ap (λ x. made (s .pixels) (s .range) (s .missing + 1) (s .unread) (s .above) (s .«no_pixel») (orElse x (Some e))) (or-none (s .first))
-  ∙ ap (λ x. made (s .pixels) (s .range) (s .missing + 1) (s .unread) (s .above) (s .«no_pixel») (orElse (s .first) (Some x))) (z refl)
+    let m : s .missing + 0 + 1 ≡ s .missing + 1 = omega arith in
+    ap (λ x. made (s .pixels) (s .range) x (s .unread) (s .above) (s .«no_pixel») (orElse (orElse (s .first) None) (Some e))) m
+    ∙ ap (λ x. made (s .pixels) (s .range) (s .missing + 1) (s .unread) (s .above) (s .«no_pixel») (orElse x (Some e))) (or-none (s .first))
+    ∙ ap (λ x. made (s .pixels) (s .range) (s .missing + 1) (s .unread) (s .above) (s .«no_pixel») (orElse (s .first) (Some x))) (z refl)
 lost-more s (suc n) f e c z =
-  let m : s .missing + suc n + 1 ≡ s .missing + suc (suc n) = omega arith in
-  let a : leb 1 (suc n) ≡ true = le-leb 1 (suc n) (omega arith) in
-  let b : leb 1 (suc (suc n)) ≡ true = le-leb 1 (suc (suc n)) (omega arith) in
-  ap (λ x. made (s .pixels) (s .range) (s .missing + suc n + 1) (s .unread) (s .above) (s .«no_pixel») (orElse (orElse (s .first) (cond x (Some f) None)) (Some e))) a
-  ∙ ap (λ x. made (s .pixels) (s .range) x (s .unread) (s .above) (s .«no_pixel») (orElse (orElse (s .first) (Some f)) (Some e))) m
-  ∙ ap (made (s .pixels) (s .range) (s .missing + suc (suc n)) (s .unread) (s .above) (s .«no_pixel»)) (or-twice (s .first) f e)
-  ∙ ap (λ x. made (s .pixels) (s .range) (s .missing + suc (suc n)) (s .unread) (s .above) (s .«no_pixel») (orElse (s .first) (cond x (Some f) None))) (sym b)
+    let m : s .missing + suc n + 1 ≡ s .missing + suc (suc n) = omega arith in
+    let a : leb 1 (suc n) ≡ true = le-leb 1 (suc n) (omega arith) in
+    let b : leb 1 (suc (suc n)) ≡ true = le-leb 1 (suc (suc n)) (omega arith) in
+    ap (λ x. made (s .pixels) (s .range) (s .missing + suc n + 1) (s .unread) (s .above) (s .«no_pixel») (orElse (orElse (s .first) (cond x (Some f) None)) (Some e))) a
+    ∙ ap (λ x. made (s .pixels) (s .range) x (s .unread) (s .above) (s .«no_pixel») (orElse (orElse (s .first) (Some f)) (Some e))) m
+    ∙ ap (made (s .pixels) (s .range) (s .missing + suc (suc n)) (s .unread) (s .above) (s .«no_pixel»)) (or-twice (s .first) f e)
+    ∙ ap (λ x. made (s .pixels) (s .range) (s .missing + suc (suc n)) (s .unread) (s .above) (s .«no_pixel») (orElse (s .first) (cond x (Some f) None))) (sym b)
 
 module _ {K S : Type 0} (o : Ops K S) where
   -- n places that all are holes by a missing byte
   all-lost : (s : Survey) (f : ℕ → Place K) (src : ℕ) (x y : ℕ → ℕ) (n : ℕ) → ((k : ℕ) → k < n → f k ≡ hole (faultAt src (x k) (y k) Missing))
-    → onward o s f n ≡ lost s n (faultAt src (x 0) (y 0) Missing)
+      → onward o s f n ≡ lost s n (faultAt src (x 0) (y 0) Missing)
   all-lost s f src x y zero h = lost-none s (faultAt src (x 0) (y 0) Missing)
   all-lost s f src x y (suc n) h =
-    ap (noted o (onward o s f n)) (h n (omega arith))
-    ∙ ap (λ t. faulted (Some (faultAt src (x n) (y n) Missing)) (counted Missing t)) (all-lost s f src x y n (λ k l. h k (omega arith)))
-    ∙ lost-more s n (faultAt src (x 0) (y 0) Missing) (faultAt src (x n) (y n) Missing) refl (λ e. ap (λ k. faultAt src (x k) (y k) Missing) e)
+      ap (noted o (onward o s f n)) (h n (omega arith))
+      ∙ ap (λ t. faulted (Some (faultAt src (x n) (y n) Missing)) (counted Missing t)) (all-lost s f src x y n (λ k l. h k (omega arith)))
+      ∙ lost-more s n (faultAt src (x 0) (y 0) Missing) (faultAt src (x n) (y n) Missing) refl (λ e. ap (λ k. faultAt src (x k) (y k) Missing) e)
 
   -- the places of a file behind those that its store reaches
   pub tail-lost : (at : ℕ → Cell) (r : Raster) (reach places total : ℕ) → LostBehind o at r reach → total ≡ r .size .width * r .size .height → places ≡ min reach total
-    → lost (surveyed o (rasterImage o at r) places) (total - places) (faultAt (r .source) (places % r .size .width) (places / r .size .width) Missing) ≡ surveyed o (rasterImage o at r) total
+      → lost (surveyed o (rasterImage o at r) places) (total - places) (faultAt (r .source) (places % r .size .width) (places / r .size .width) Missing) ≡ surveyed o (rasterImage o at r) total
   tail-lost at r reach places total h t p =
-    let w = r .size .width in
-    let i = rasterImage o at r in
-    let e : places + (total - places) ≡ total = omega arith in
-    let z : places + 0 ≡ places = omega arith in
-    ap (λ q. lost (surveyed o i places) (total - places) (faultAt (r .source) (q % w) (q / w) Missing)) (sym z)
-    ∙ sym (all-lost (surveyed o i places) (λ k. reading i (places + k)) (r .source) (λ k. (places + k) % w) (λ k. (places + k) / w) (total - places)
-        (λ k l. h ((places + k) % w) ((places + k) / w) (omega (arith, div-add-mod (places + k) w, mul-comm w ((places + k) / w)))))
-    ∙ sym (onward-append o fresh (reading i) places (total - places))
-    ∙ ap (surveyed o i) e
+      let w = r .size .width in
+      let i = rasterImage o at r in
+      let e : places + (total - places) ≡ total = omega arith in
+      let z : places + 0 ≡ places = omega arith in
+      ap (λ q. lost (surveyed o i places) (total - places) (faultAt (r .source) (q % w) (q / w) Missing)) (sym z)
+      ∙ sym (all-lost (surveyed o i places) (λ k. reading i (places + k)) (r .source) (λ k. (places + k) % w) (λ k. (places + k) / w) (total - places)
+      (λ k l. h ((places + k) % w) ((places + k) / w) (omega (arith, div-add-mod (places + k) w, mul-comm w ((places + k) / w)))))
+      ∙ sym (onward-append o fresh (reading i) places (total - places))
+      ∙ ap (surveyed o i) e
 
   -- a picture by its header's numbers
   abbrev drawn : (ℕ → Cell) → Header → ℕ → Image K
@@ -91,7 +91,8 @@ module _ {K S : Type 0} (o : Ops K S) where
     width = h .width;
     height = h .height;
     maxval = h .maxval;
-    at = λ x y. pixelAt o at (h .maxval) (h .length + (y * h .width + x) * pixelBytes o (h .maxval)) (faultAt src x y) }
+    at = λ x y. pixelAt o at (h .maxval) (h .length + (y * h .width + x) * pixelBytes o (h .maxval)) (faultAt src x y);
+  }
 
   pub drawn-same : (at : ℕ → Cell) (r s : Raster) → headed r ≡ headed s → r .source ≡ s .source → rasterImage o at r ≡ rasterImage o at s
   drawn-same at r s h e = ap (λ x. drawn at x (r .source)) h ∙ ap (drawn at (headed s)) e
@@ -102,7 +103,7 @@ ok-same h k e = cc
 -- no more pixels begin before the end than there are bytes
 pub reached-few : (start end step : ℕ) → reached start end step ≤ end
 reached-few start end step =
-  ⊎-elim
+    ⊎-elim
     (λ lt. let e : reached start end step ≡ (end - start - 1) / step + 1 = cond-false (leb end start) 0 ((end - start - 1) / step + 1) (lt-leb end start lt) in omega (arith, e, div-le-self (end - start - 1) step))
     (λ le. let e : reached start end step ≡ 0 = cond-true (leb end start) 0 ((end - start - 1) / step + 1) (le-leb end start le) in omega (arith, e))
     (cases-lt start end)

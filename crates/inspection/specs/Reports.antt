@@ -36,7 +36,8 @@ lost s n f = record {
   unread = s .unread;
   above = s .above;
   «no_pixel» = s .«no_pixel»;
-  first = orElse (s .first) (cond (leb 1 n) (Some f) None) }
+  first = orElse (s .first) (cond (leb 1 n) (Some f) None);
+}
 
 -- colour if the second byte is '6', else grey
 abbrev pub markOf : List ℕ → ℕ
@@ -47,9 +48,9 @@ module _ {K S : Type 0} (o : Ops K S) where
   abbrev pub Found : (ℕ → Cell) → Finding → Type 0
   Found at (Refused e) = headerOf (o .mark) (available at 0 headerLimit) ≡ Err e
   Found at (Picture d) =
-    (headerOf (o .mark) (available at 0 headerLimit) ≡ Ok (record { width = d .size .width; height = d .size .height; maxval = d .size .maxval; length = d .header }))
-    × ((r : Raster) → headerOf (o .mark) (available at 0 headerLimit) ≡ Ok (headed r) → r .source ≡ 0
-       → d .survey ≡ surveyed o (rasterImage o at r) (d .size .width * d .size .height))
+      (headerOf (o .mark) (available at 0 headerLimit) ≡ Ok (record { width = d .size .width; height = d .size .height; maxval = d .size .maxval; length = d .header }))
+      × ((r : Raster) → headerOf (o .mark) (available at 0 headerLimit) ≡ Ok (headed r) → r .source ≡ 0
+      → d .survey ≡ surveyed o (rasterImage o at r) (d .size .width * d .size .height))
 
 -- no more than two prepares were made for each of n bytes, and twelve more
 abbrev pub Quick : ℕ → Finding → Type 0

@@ -50,7 +50,16 @@ fn look<S: Store, K: Kind>(file: &mut FileSource<S, K>, end: u64) -> Survey
     let found = survey(file, places);
     let column = (places % wide) as u32;
     let row = (places / wide) as u32;
-    lose(found, total - places, Fault { cause: Cause::Missing, source: raster.source, column, row })
+    lose(
+        found,
+        total - places,
+        Fault {
+            cause: Cause::Missing,
+            source: raster.source,
+            column,
+            row,
+        },
+    )
 }
 
 /// What is to be told of an opened file whose store has no byte from `end` on.
@@ -64,7 +73,12 @@ fn tell<S: Store, K: Kind>(file: &mut FileSource<S, K>, end: u64) -> Details
 {
     let raster = file.raster();
     let survey = look(file, end);
-    Details { size: raster.size, header: raster.start, prepares: file.count(), survey }
+    Details {
+        size: raster.size,
+        header: raster.start,
+        prepares: file.count(),
+        survey,
+    }
 }
 
 /// Whether a store that has no byte from `end` on has a picture of this kind, and what is to be told of it.
@@ -88,8 +102,14 @@ pub fn inspect(bytes: &[u8]) -> Report
 {
     let end = bytes.len() as u64;
     if bytes.len() > 1 && bytes[1] == b'6' {
-        Report { mark: b'6', finding: judge::<Bytes, Colour>(Bytes { bytes }, end) }
+        Report {
+            mark: b'6',
+            finding: judge::<Bytes, Colour>(Bytes { bytes }, end),
+        }
     } else {
-        Report { mark: b'5', finding: judge::<Bytes, Grey>(Bytes { bytes }, end) }
+        Report {
+            mark: b'5',
+            finding: judge::<Bytes, Grey>(Bytes { bytes }, end),
+        }
     }
 }

@@ -14,7 +14,9 @@ fn plain(text: &str, bytes: &mut Vec<u8>) -> Result<bool, AllocError> {
         match high {
             None => high = Some(digit),
             Some(before) => {
-                let byte = u8::try_from(before.saturating_mul(16).saturating_add(digit)).unwrap_or(0);
+                let byte = u8::try_from(before.saturating_mul(16).saturating_add(digit)).unwrap_or(
+                    0,
+                );
                 bytes.push(byte)?;
                 high = None;
             }

@@ -49,7 +49,12 @@ fn frame_of(words: &[&str]) -> Option<Frame> {
     let height = number(words, 3)?;
     let maxval = number(words, 4)?;
     let number = number(words, 5)?;
-    Some(Frame { width, height, maxval, number })
+    Some(Frame {
+        width,
+        height,
+        maxval,
+        number,
+    })
 }
 
 /// `memory KIND WIDTH HEIGHT MAXVAL NUMBER CODES LEFT TOP WIDTH HEIGHT LENGTH`: makes a picture in memory.

@@ -25,24 +25,59 @@ fn run<S: Store + Drop, K: Kind>(store: S, number: u32, ask: Ask, buffer: &mut [
             };
             let size = file.size();
             let count = file.count();
-            Outcome::Opened { size, header: raster.start, prepared, count }
+            Outcome::Opened {
+                size,
+                header: raster.start,
+                prepared,
+                count,
+            }
         }
         Err(refused) => Outcome::Refused(refused.refusal),
     }
 }
 
 /// The same with two stores, the second of which begins at place `from`.
-fn run_joined<K: Kind>(first: &[u8], from: u64, second: &[u8], number: u32, ask: Ask, buffer: &mut [u64]) -> Outcome {
+fn run_joined<K: Kind>(
+    first: &[u8],
+    from: u64,
+    second: &[u8],
+    number: u32,
+    ask: Ask,
+    buffer: &mut [u64],
+) -> Outcome {
     let first = Bytes { bytes: first };
     let second = Bytes { bytes: second };
-    run::<Joined<Bytes, Bytes>, K>(Joined { first, from, second }, number, ask, buffer)
+    run::<Joined<Bytes, Bytes>, K>(
+        Joined {
+            first,
+            from,
+            second,
+        },
+        number,
+        ask,
+        buffer,
+    )
 }
 
 /// The same with the store that has these bytes in this form.
-pub fn run_file<'a, K: Kind>(bytes: &'a [u8], form: &'a Form, number: u32, ask: Ask, buffer: &mut [u64]) -> Outcome {
+pub fn run_file<'a, K: Kind>(
+    bytes: &'a [u8],
+    form: &'a Form,
+    number: u32,
+    ask: Ask,
+    buffer: &mut [u64],
+) -> Outcome {
     match form {
         Form::Plain => run::<Bytes, K>(Bytes { bytes }, number, ask, buffer),
-        Form::Unread(unread) => run::<Sectors, K>(Sectors { bytes, unread: unread.as_slice() }, number, ask, buffer),
+        Form::Unread(unread) => run::<Sectors, K>(
+            Sectors {
+                bytes,
+                unread: unread.as_slice(),
+            },
+            number,
+            ask,
+            buffer,
+        ),
         Form::Joint { from, cut } => {
             let (first, second) = bytes.split_at_checked(*cut).unwrap_or((bytes, &[]));
             run_joined::<K>(first, *from, second, number, ask, buffer)

@@ -20,7 +20,12 @@ pub struct Frame {
 
 /// Makes the picture of these codes, and prepares the rectangle if its numbers make one.
 fn run<C: Codes + Drop, K: Kind>(codes: C, frame: Frame, ask: Ask, buffer: &mut [u64]) -> Outcome {
-    let Frame { width, height, maxval, number } = frame;
+    let Frame {
+        width,
+        height,
+        maxval,
+        number,
+    } = frame;
     match MemorySource::<C, K>::new(codes, width, height, maxval, number) {
         Ok(mut memory) => {
             let prepared = match Rect::new(ask.left, ask.top, ask.width, ask.height) {
@@ -29,7 +34,12 @@ fn run<C: Codes + Drop, K: Kind>(codes: C, frame: Frame, ask: Ask, buffer: &mut 
             };
             let size = memory.size();
             let count = memory.count();
-            Outcome::Opened { size, header: 0, prepared, count }
+            Outcome::Opened {
+                size,
+                header: 0,
+                prepared,
+                count,
+            }
         }
         Err(refused) => Outcome::Refused(refused.refusal),
     }

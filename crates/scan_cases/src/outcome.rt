@@ -21,7 +21,14 @@ pub enum Outcome {
 /// Why a call said no.
 fn refusal_text(heap: Global, refusal: Refusal) -> Result<String, AllocError> {
     match refusal {
-        Refusal::Hole(Fault { cause, source, column, row }) => {
+        Refusal::Hole(
+            Fault {
+                cause,
+                source,
+                column,
+                row,
+            },
+        ) => {
             let cause = cause.number();
             format!(heap, "hole {cause} {source} {column} {row}")
         }
@@ -74,13 +81,21 @@ fn listed(heap: Global, buffer: &[u64]) -> Result<String, AllocError> {
 pub fn told(heap: Global, outcome: Outcome, buffer: &[u64]) -> Result<String, AllocError> {
     match outcome {
         Outcome::Refused(refused) => refusal_text(heap, refused),
-        Outcome::Opened { size, header, prepared, count } => {
+        Outcome::Opened {
+            size,
+            header,
+            prepared,
+            count,
+        } => {
             let width = size.width;
             let height = size.height;
             let maxval = size.maxval;
             let answer = answered(heap, prepared)?;
             let entries = listed(heap, buffer)?;
-            format!(heap, "opened {width} {height} {maxval} {header} | {answer}{entries} count {count}")
+            format!(
+                heap,
+                "opened {width} {height} {maxval} {header} | {answer}{entries} count {count}"
+            )
         }
     }
 }

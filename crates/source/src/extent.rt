@@ -24,6 +24,10 @@ impl<S: Store, K: Kind> FileSource<S, K> {
     {
         let start = self.raster.start;
         let step = pixel_bytes::<K>(self.raster.size.maxval >= 256) as u64;
-        if end <= start { 0 } else { (end - start - 1) / step + 1 }
+        if end <= start {
+            0
+        } else {
+            (end - start - 1) / step + 1
+        }
     }
 }

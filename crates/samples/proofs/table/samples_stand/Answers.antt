@@ -20,4 +20,5 @@ returns c = record {
   cut = refl;
   flipped = refl;
   fits = refl;
-  leaves = refl }
+  leaves = refl;
+}
