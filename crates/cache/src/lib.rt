@@ -1,5 +1,7 @@
 //! A picture that keeps tiles of the picture below.
 
+#![tactic(auto)]
+
 mod blit;
 mod cache;
 mod counts;

@@ -1,5 +1,7 @@
 //! Drives tile caches: a run a line on standard input, its counts and a digest of all that was answered on standard output.
 
+#![tactic(auto)]
+
 mod drive;
 mod form;
 mod words;

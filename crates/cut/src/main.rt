@@ -1,5 +1,7 @@
 //! The engine's main job: reads a picture from standard input, turns and shrinks it, writes it as one file and as tiles, and tells what it did.
 
+#![tactic(auto)]
+
 mod check;
 mod job;
 mod strips;

@@ -1,5 +1,7 @@
 //! Reads a picture from standard input and tells whether it is whole.
 
+#![tactic(auto)]
+
 mod text;
 
 use inspection::inspect;

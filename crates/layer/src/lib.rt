@@ -1,5 +1,7 @@
 //! One step laid over any picture.
 
+#![tactic(auto)]
+
 mod aim;
 mod aims;
 mod ask;

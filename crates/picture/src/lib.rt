@@ -1,5 +1,7 @@
 //! Places, rectangles and the interface of a picture, with the meaning of every step.
 
+#![tactic(auto)]
+
 mod fault;
 mod limits;
 mod picture;

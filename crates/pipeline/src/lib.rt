@@ -1,5 +1,7 @@
 //! Prepares with the laws that hold over whole runs of calls.
 
+#![tactic(auto)]
+
 mod pair;
 mod run;
 

@@ -1,5 +1,7 @@
 //! Kinds of pixel: what a pixel's code and samples are, and weighted sums of pixels.
 
+#![tactic(auto)]
+
 mod colour;
 mod grey;
 mod kind;

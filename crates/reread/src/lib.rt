@@ -1,5 +1,7 @@
 //! A written picture reads back, and a picture that was read is written as it stood.
 
+#![tactic(auto)]
+
 ghost use Rattle.store.specs.Cells.{capped};
 ghost use Rattle.source.specs.Front.{available};
 ghost use Rattle.source.specs.Limits.{header_limit};

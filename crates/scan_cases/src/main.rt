@@ -1,5 +1,7 @@
 //! Opens and prepares a picture for each line of standard input, and prints what came of it.
 
+#![tactic(auto)]
+
 mod ask;
 mod bytes;
 mod case;

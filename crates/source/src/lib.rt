@@ -1,5 +1,7 @@
 //! What a picture file holds, read from a store of bytes, and pictures in memory.
 
+#![tactic(auto)]
+
 mod extent;
 mod file;
 mod front;

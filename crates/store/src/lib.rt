@@ -1,5 +1,7 @@
 //! Where a file's bytes come from: a byte, a missing place or an unread place for each number from 0.
 
+#![tactic(auto)]
+
 mod bytes;
 mod joined;
 mod lack;

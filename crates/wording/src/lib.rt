@@ -1,5 +1,7 @@
 //! Words for faults and refusals, which the programs share.
 
+#![tactic(auto)]
+
 use picture::{Cause, Fault, Refusal};
 use std::alloc::{AllocError, Global};
 

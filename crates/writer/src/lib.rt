@@ -1,5 +1,7 @@
 //! Pictures as files: row by row in strips, and as square tiles.
 
+#![tactic(auto)]
+
 mod header;
 mod laws;
 mod layout;
