@@ -13,7 +13,7 @@ use Rattle.store.proofs.Answering.{answer_by, answer_each, answer_same, answer_s
 use Rattle.store.proofs.Slices.{byte_at}
 
 -- what a search of the list finds
-pub found : (xs : List ℕ) (n : ℕ) (r : Bool) → IsAnyAnswer (λ y t. Decides t (y ≡ n)) xs r → r ≡ listed xs n
+pub found : (xs : List ℕ) (n : ℕ) (r : Bool) → IsAnyAnswer (λ y t. eqb y n ≡ t) xs r → r ≡ listed xs n
 found xs n r h =
     same_from_decides r (listed xs n) (contains_decides eqb Decides-eqb xs n r h)
     (Decides-by_or (λ x. eqb x n) (λ x. x ≡ n) (λ l. listed l n) (λ x. Decides-eqb x n) refl (λ _ _. refl) xs)

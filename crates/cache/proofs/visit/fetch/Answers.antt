@@ -4,8 +4,8 @@ use Rattle.cache.proofs.Keeping.{spare, small_area}
 use Rattle.cache.proofs.Fetching.{covers_in, front_admitted, wrote, went_ok, went_err}
 use Rattle.cache.proofs.visit.fetch.Goals as goal
 
-pub slice-bounds-prepare-end : goal.slice-bounds-prepare-end
-slice-bounds-prepare-end g c =
+pub slice_bounds-prepare-end : goal.slice_bounds-prepare-end
+slice_bounds-prepare-end g c =
     let covers = covers_in _ _ _ _ _ _ _ c.requires.stands.wide c.requires.stands.high c.cell-rect.ensures in
     let low : slot_at c.args.tiles.now.held c.args.tiles.now.len < 17 = spare _ _ _ _ c.requires.stands.ready in
     let few : c.area-n.result ≤ 256 = omega (arith, c.area-n.ensures, small_area _ _ _ _ c.requires.stands.ready _ _ covers) in

@@ -39,8 +39,8 @@ returns-in-Embed c =
     let fx : SFits w32 i.x = search rules in
     let fy : SFits w32 i.y = search rules in
     as_step c.placed.result c.args.step (Embed i.x i.y i.width i.height i.ground) W H p i.is
-    (aims_embed c.placed.result i.x i.y i.width i.height W H i.ground c.or-black.result p c.or-black.ensures
-    (aims_moved c.placed.result _ i.x _ i.y W H c.or-black.result p (to_z-of_z fx) (to_z-of_z fy) c.placed.ensures))
+    (aims_embed c.placed.result i.x i.y i.width i.height W H i.ground c.or_black.result p c.or_black.ensures
+    (aims_moved c.placed.result _ i.x _ i.y W H c.or_black.result p (to_z-of_z fx) (to_z-of_z fy) c.placed.ensures))
 
 pub returns-in-Flip : goal.returns-in-Flip
 returns-in-Flip c =

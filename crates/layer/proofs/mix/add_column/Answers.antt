@@ -8,15 +8,15 @@ use Rattle.layer.proofs.mix.add_column.Goals as goal
 -- where the code stands
 index : (g : _) (c : goal.After-decode g) → c.min-row.result * c.args.lens.at.width + c.min-column.result ≡ lens_row c.args.lens c.args.j c.loop-r.r * c.args.lens.at.width + lens_column c.args.lens c.args.i c.args.q
 index g c =
-    let row : c.min-row.result ≡ lens_row c.args.lens c.args.j c.loop-r.r = c.min-row.ensures ∙ ap (λ z. min z (c.args.lens.at.height - 1)) c.saturating-sub-in-loop-r.ensures in
-    let column : c.min-column.result ≡ lens_column c.args.lens c.args.i c.args.q = c.min-column.ensures ∙ ap (λ z. min z (c.args.lens.at.width - 1)) c.saturating-sub.ensures in
+    let row : c.min-row.result ≡ lens_row c.args.lens c.args.j c.loop-r.r = c.min-row.ensures ∙ ap (λ z. min z (c.args.lens.at.height - 1)) c.saturating_sub-in-loop-r.ensures in
+    let column : c.min-column.result ≡ lens_column c.args.lens c.args.i c.args.q = c.min-column.ensures ∙ ap (λ z. min z (c.args.lens.at.width - 1)) c.saturating_sub.ensures in
     ap (λ z. z * c.args.lens.at.width + c.min-column.result) row ∙ ap (λ z. lens_row c.args.lens c.args.j c.loop-r.r * c.args.lens.at.width + z) column
 
 pub bounds-codes-row : goal.bounds-codes-row
 bounds-codes-row g c =
     let l = c.args.lens in
-    let row : c.min-row.result ≡ lens_row l c.args.j c.loop-r.r = c.min-row.ensures ∙ ap (λ z. min z (l.at.height - 1)) c.saturating-sub-in-loop-r.ensures in
-    let column : c.min-column.result ≡ lens_column l c.args.i c.args.q = c.min-column.ensures ∙ ap (λ z. min z (l.at.width - 1)) c.saturating-sub.ensures in
+    let row : c.min-row.result ≡ lens_row l c.args.j c.loop-r.r = c.min-row.ensures ∙ ap (λ z. min z (l.at.height - 1)) c.saturating_sub-in-loop-r.ensures in
+    let column : c.min-column.result ≡ lens_column l c.args.i c.args.q = c.min-column.ensures ∙ ap (λ z. min z (l.at.width - 1)) c.saturating_sub.ensures in
     omega (arith, ap (λ z. z * l.at.width) row, index-inside l c.args.i c.args.j c.args.q c.loop-r.r, c.requires.can.room)
 
 pub unwrap-pixel-requires : goal.unwrap-pixel-requires
@@ -52,8 +52,8 @@ loop-r-preserved g c =
     let p = lens_pixel o c.args.codes.now l c.args.i c.args.j in
     let f : SFits w32 c.weight.result = search rules in
     let e : to_z w32 (of_z w32 c.weight.result) ≡ w k = to_z-of_z f ∙ c.weight.ensures in
-    let row : c.min-row.result ≡ lens_row l c.args.j c.loop-r.r = c.min-row.ensures ∙ ap (λ z. min z (l.at.height - 1)) c.saturating-sub-in-loop-r.ensures in
-    let column : c.min-column.result ≡ lens_column l c.args.i c.args.q = c.min-column.ensures ∙ ap (λ z. min z (l.at.width - 1)) c.saturating-sub.ensures in
+    let row : c.min-row.result ≡ lens_row l c.args.j c.loop-r.r = c.min-row.ensures ∙ ap (λ z. min z (l.at.height - 1)) c.saturating_sub-in-loop-r.ensures in
+    let column : c.min-column.result ≡ lens_column l c.args.i c.args.q = c.min-column.ensures ∙ ap (λ z. min z (l.at.width - 1)) c.saturating_sub.ensures in
     let at : c.min-row.result * l.at.width + c.min-column.result ≡ lens_spot l c.args.i c.args.j k =
     ap (λ z. z * l.at.width + c.min-column.result) row ∙ ap (λ z. lens_row l c.args.j c.loop-r.r * l.at.width + z) column ∙ sym (spot_at l c.args.i c.args.j c.args.q c.loop-r.r c.requires.inside) in
     let x : p k ≡ c.unwrap-pixel.result = or_black_is o _ o.black _ (ap (λ z. o.decode (get_or c.args.codes.now z 0)) (sym at) ∙ sym c.decode.ensures ∙ c.unwrap-pixel.ensures) in

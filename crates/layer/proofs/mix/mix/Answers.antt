@@ -5,8 +5,8 @@ use Rattle.layer.specs.Sums.{downward, columned}
 use Rattle.layer.proofs.Summing.{by_columns, columned_more, held_columns}
 use Rattle.layer.proofs.mix.mix.Goals as goal
 
-pub add-column-sum-requires : goal.add-column-sum-requires
-add-column-sum-requires g c =
+pub add_column-sum-requires : goal.add_column-sum-requires
+add_column-sum-requires g c =
     let o = g.K.Kind.ops in
     let l = c.args.lens in
     let w = g.W.Weights.weighs c.args.weights.now in
@@ -46,7 +46,7 @@ loop-q-preserved g c =
     let l = c.args.lens in
     let w = g.W.Weights.weighs c.args.weights.now in
     let p = lens_pixel o c.args.codes.now l c.args.i c.args.j in
-    c.add-column-sum.ensures ∙ ap (λ s. downward o p w l.columns c.loop-q.q s l.rows) c.loop-q.invariant ∙ sym (columned_more o p w l.columns l.rows c.loop-q.q)
+    c.add_column-sum.ensures ∙ ap (λ s. downward o p w l.columns c.loop-q.q s l.rows) c.loop-q.invariant ∙ sym (columned_more o p w l.columns l.rows c.loop-q.q)
 
 pub returns : goal.returns
 returns g c =

@@ -7,8 +7,8 @@ use Rattle.picture.proofs.Faults.{first_append, first_same, first_stays, first_m
 use Rattle.picture.proofs.Serving.{next_row, row_end, row_is, shown_more}
 use Rattle.picture.proofs.rows.fill.Goals as goal
 
-pub slice-bounds-row-end : goal.slice-bounds-row-end
-slice-bounds-row-end g c =
+pub slice_bounds-row-end : goal.slice_bounds-row-end
+slice_bounds-row-end g c =
     let r = c.args.rect in
     let h : c.loop-j.j * r.width + r.width ≤ length c.loop-j.buffer = row_end c.loop-j.j r.width r.height (length c.loop-j.buffer) c.loop-j-test.true (omega arith) in
     search rules

@@ -6,5 +6,5 @@ pub returns : goal.returns
 returns c =
     let f : SFits w64 c.clamp.result = search rules in
     ap nat_abs (to_z-of_z f)
-    ∙ scaled_is c.args.sum c.args.scale c.args.offset c.args.maxval c.div-euclid.result c.clamp.result
-    c.ranges.sum c.requires.small c.ranges.scale.fits c.ranges.offset c.ranges.maxval.fits c.div-euclid.ensures c.clamp.ensures.value
+    ∙ scaled_is c.args.sum c.args.scale c.args.offset c.args.maxval c.div_euclid.result c.clamp.result
+    c.ranges.sum c.requires.small c.ranges.scale.fits c.ranges.offset c.ranges.maxval.fits c.div_euclid.ensures c.clamp.ensures.value

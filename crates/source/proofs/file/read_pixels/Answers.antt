@@ -5,15 +5,15 @@ use Rattle.store.specs.Reads.{answer, place_of}
 use Rattle.source.proofs.Loads.{Lacked, lacked, loaded_all, loaded_some}
 use Rattle.source.proofs.file.read_pixels.Goals as goal
 
-pub overflow-sub-pixels : goal.overflow-sub-pixels
-overflow-sub-pixels g c =
+pub overflow_sub-pixels : goal.overflow_sub-pixels
+overflow_sub-pixels g c =
     let at = capped (g.S.Store.at c.args.store.now) in
     let e : Err c.in-Err.lack ≡ answer at c.args.place (c.args.count * c.args.step) =
     c.in-Err.ensures.answer ∙ ap (answer at c.args.place) (simp length-take (omega arith)) in
     omega (arith, (lacked at c.args.place c.args.step c.args.count c.in-Err.lack c.requires.some e).0, c.place.ensures)
 
-pub slice-bounds-read-end-in-Err : goal.slice-bounds-read-end-in-Err
-slice-bounds-read-end-in-Err g c =
+pub slice_bounds-read-end-in-Err : goal.slice_bounds-read-end-in-Err
+slice_bounds-read-end-in-Err g c =
     let at = capped (g.S.Store.at c.args.store.now) in
     let e : Err c.in-Err.lack ≡ answer at c.args.place (c.args.count * c.args.step) =
     c.in-Err.ensures.answer ∙ ap (answer at c.args.place) (simp length-take (omega arith)) in
@@ -36,6 +36,6 @@ returns-in-Err g c =
     let s : (c.place.result - c.args.place) / c.args.step * c.args.step ≤ c.args.count * c.args.step =
     subst (λ z. (z - c.args.place) / c.args.step * c.args.step ≤ c.args.count * c.args.step) (sym c.place.ensures) k.bytes in
     let l : length c.read.new.buffer ≡ c.args.count * c.args.step = c.read.auto.buffer ∙ simp length-take (omega arith) in
-    loaded_some (capped (g.S.Store.at c.args.store.now)) c.args.place c.args.step c.args.count _ _ c.in-Err.lack c.cause-of.result _ c.read-in-Err.new.buffer _
+    loaded_some (capped (g.S.Store.at c.args.store.now)) c.args.place c.args.step c.args.count _ _ c.in-Err.lack c.cause_of.result _ c.read-in-Err.new.buffer _
     c.requires.some c.in-Err.ensures.answer (simp length-take (omega arith)) (ap (λ z. (z - c.args.place) / c.args.step) c.place.ensures)
-    (simp (length-take, length-append) (omega arith)) c.read-in-Err.auto.buffer c.read-in-Err.ensures.buffer c.cause-of.ensures
+    (simp (length-take, length-append) (omega arith)) c.read-in-Err.auto.buffer c.read-in-Err.ensures.buffer c.cause_of.ensures

@@ -3,14 +3,14 @@ use Rattle.std.proofs.lemmas.List.{length-take-le}
 use Rattle.source.proofs.Fronting.{stop_within, front_ok, front_err}
 use Rattle.source.proofs.front.front.Goals as goal
 
-pub slice-bounds-read-end : goal.slice-bounds-read-end
-slice-bounds-read-end g c =
+pub slice_bounds-read-end : goal.slice_bounds-read-end
+slice_bounds-read-end g c =
     let h : c.place-n.result ≤ length c.args.buffer.now = stop_within _ _ c.place-n.result _ c.in-Err.ensures.answer c.place-n.ensures in
     let h2 : c.place-n.result ≤ length c.read.new.buffer = omega arith in
     search rules
 
-pub slice-bounds-read-end-in-Err : goal.slice-bounds-read-end-in-Err
-slice-bounds-read-end-in-Err g c =
+pub slice_bounds-read-end-in-Err : goal.slice_bounds-read-end-in-Err
+slice_bounds-read-end-in-Err g c =
     let h : c.place-n.result ≤ length c.args.buffer.now = stop_within _ _ c.place-n.result _ c.in-Err.ensures.answer c.place-n.ensures in
     sym (length-take-le c.place-n.result c.read.new.buffer (omega arith))
 

@@ -8,8 +8,8 @@ pub returns-then-value-maxval : goal.returns-then-value-maxval
 returns-then-value-maxval g c =
     sym (code_none c.args.wide (from c.args.bytes.now c.args.start) g.K.Kind.ops c.args.maxval c.loop-k.k (omega arith) (omega (arith, c.sample-value.ensures)))
 
-pub overflow-mul-code : goal.overflow-mul-code
-overflow-mul-code g c =
+pub overflow_mul-code : goal.overflow_mul-code
+overflow_mul-code g c =
     let b = from c.args.bytes.now c.args.start in
     let few = g.met.K.Kind.few in
     let l : length (samples_of c.args.wide b c.loop-k.k) ≤ 2 = omega (arith, samples_long c.args.wide b c.loop-k.k) in
@@ -17,8 +17,8 @@ overflow-mul-code g c =
     let s : c.loop-k.code < 2 ^ 32 = omega (arith, joined_small c.args.maxval (samples_of c.args.wide b c.loop-k.k) c.loop-k.invariant.0 m l) in
     search rules
 
-pub overflow-add-code : goal.overflow-add-code
-overflow-add-code g c =
+pub overflow_add-code : goal.overflow_add-code
+overflow_add-code g c =
     let b = from c.args.bytes.now c.args.start in
     let few = g.met.K.Kind.few in
     let l : length (samples_of c.args.wide b c.loop-k.k) ≤ 2 = omega (arith, samples_long c.args.wide b c.loop-k.k) in

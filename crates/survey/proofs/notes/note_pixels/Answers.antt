@@ -11,12 +11,12 @@ loop-k-preserved g c =
     let o = g.K.Kind.ops in
     let k = c.loop-k.k in
     let s = c.loop-k.survey in
-    let t = c.note-pixel-survey.result in
+    let t = c.note_pixel-survey.result in
     let p = c.unwrap-pixel.result in (
-      omega (arith, seen_pixel o s t p c.note-pixel-survey.ensures, c.loop-k.invariant.0),
+      omega (arith, seen_pixel o s t p c.note_pixel-survey.ensures, c.loop-k.invariant.0),
       λ f h.
           let e = coded_pixel o g.met.K.Kind.decodes (f k) (get_or c.args.codes.now k 0) p (h k c.loop-k-test.true) (sym c.decode.ensures ∙ c.unwrap-pixel.ensures) in
-          onward_pixel o c.args.survey t s f k p c.note-pixel-survey.ensures (c.loop-k.invariant.1 f h) e,
+          onward_pixel o c.args.survey t s f k p c.note_pixel-survey.ensures (c.loop-k.invariant.1 f h) e,
     )
 
 pub returns : goal.returns

@@ -37,8 +37,8 @@ look-requires g c =
       room = omega arith;
     }
 
-pub note-pixels-survey-requires : goal.note-pixels-survey-requires
-note-pixels-survey-requires g c =
+pub note_pixels-survey-requires : goal.note_pixels-survey-requires
+note_pixels-survey-requires g c =
     let o = g.Pixel.Kind.ops in
     let i = (g.P.Picture.model c.args.picture.now).shown in
     let j = (g.P.Picture.model c.loop-place.picture).shown in
@@ -67,7 +67,7 @@ loop-place-preserved-in-Ok g c =
     let l : n ≤ length codes = omega (arith, c.look.auto.buffer) in
     let h : Part i j w place n = record { same = ap (λ m. m.shown) c.loop-place.invariant.kept; wide = c.size-size.ensures.width; fits = c.stretch-n.ensures.row } in
     record {
-      value = pixels_more o i j w place n c.loop-place.survey c.note-pixels-survey.result codes h l c.loop-place.invariant.value (c.look.ensures.codes c.in-Ok.is) c.note-pixels-survey.ensures;
+      value = pixels_more o i j w place n c.loop-place.survey c.note_pixels-survey.result codes h l c.loop-place.invariant.value (c.look.ensures.codes c.in-Ok.is) c.note_pixels-survey.ensures;
       below = c.stretch-n.ensures.left;
       least = omega (arith, c.min-run.ensures);
       most = omega (arith, c.min-run.ensures);
@@ -77,8 +77,8 @@ loop-place-preserved-in-Ok g c =
       spent = spent_pixels c.loop-place.run c.min-run.result n _ _ place c.loop-place.invariant.spent (omega (arith, c.min-run.ensures)) (omega (arith, c.look.ensures.quick)) c.stretch-n.ensures.some;
     }
 
-pub note-hole-survey-requires : goal.note-hole-survey-requires
-note-hole-survey-requires g c =
+pub note_hole-survey-requires : goal.note_hole-survey-requires
+note_hole-survey-requires g c =
     let i = (g.P.Picture.model c.args.picture.now).shown in
     let s = c.size-size.result in
     let b : c.min-count.result ≤ s.width * s.height = omega (arith, c.min-count.ensures) in
@@ -96,7 +96,7 @@ loop-place-preserved-then-n-eq1 g c =
     let n = c.stretch-n.result in
     let h : Part i j w place n = record { same = ap (λ m. m.shown) c.loop-place.invariant.kept; wide = c.size-size.ensures.width; fits = c.stretch-n.ensures.row } in
     record {
-      value = hole_more o i j w place n c.loop-place.survey c.note-hole-survey.result c.in-Err.fault h c.if-n-eq1.true c.loop-place.invariant.value c.in-Err.ensures.answer c.note-hole-survey.ensures;
+      value = hole_more o i j w place n c.loop-place.survey c.note_hole-survey.result c.in-Err.fault h c.if-n-eq1.true c.loop-place.invariant.value c.in-Err.ensures.answer c.note_hole-survey.ensures;
       below = omega (arith, c.loop-place-test.true);
       least = c.loop-place.invariant.least;
       most = c.loop-place.invariant.most;

@@ -8,14 +8,14 @@ use Rattle.writer.proofs.header.+put_number.Goals as goal
 pub bounds-out-p : goal.bounds-out-p
 bounds-out-p t c = omega (arith, length_digit c.args.n c.if-n-lt10.true)
 
-pub put-number-end-requires : goal.put-number-end-requires
-put-number-end-requires t c = let f : c.args.n < 2 ^ 32 = omega (arith, c.ranges.n) in omega (arith, length-step c.args.n c.if-n-lt10.false f)
+pub put_number-end-requires : goal.put_number-end-requires
+put_number-end-requires t c = let f : c.args.n < 2 ^ 32 = omega (arith, c.ranges.n) in omega (arith, length-step c.args.n c.if-n-lt10.false f)
 
 pub bounds-out-end : goal.bounds-out-end
-bounds-out-end t c = let f : c.args.n < 2 ^ 32 = omega (arith, c.ranges.n) in omega (arith, length-step c.args.n c.if-n-lt10.false f, c.put-number-end.ensures.end, c.put-number-end.auto.out)
+bounds-out-end t c = let f : c.args.n < 2 ^ 32 = omega (arith, c.ranges.n) in omega (arith, length-step c.args.n c.if-n-lt10.false f, c.put_number-end.ensures.end, c.put_number-end.auto.out)
 
-pub overflow-add-result-else-n-lt10 : goal.overflow-add-result-else-n-lt10
-overflow-add-result-else-n-lt10 t c = let f : c.args.n < 2 ^ 32 = omega (arith, c.ranges.n) in omega (arith, length-step c.args.n c.if-n-lt10.false f, c.put-number-end.ensures.end, c.put-number-end.auto.out)
+pub overflow_add-result-else-n-lt10 : goal.overflow_add-result-else-n-lt10
+overflow_add-result-else-n-lt10 t c = let f : c.args.n < 2 ^ 32 = omega (arith, c.ranges.n) in omega (arith, length-step c.args.n c.if-n-lt10.false f, c.put_number-end.ensures.end, c.put_number-end.auto.out)
 
 pub returns-then-n-lt10 : goal.returns-then-n-lt10
 returns-then-n-lt10 t c =
@@ -30,8 +30,8 @@ returns-else-n-lt10 t c =
     let f : c.args.n < 2 ^ 32 = omega (arith, c.ranges.n) in
     let l = length-step c.args.n c.if-n-lt10.false f in
     record {
-      end = omega (arith, c.put-number-end.ensures.end);
-      out = pasted_push c.args.out.now c.put-number-end.new.out c.args.p (decimal (c.args.n / 10)) c.put-number-end.result (48 + c.args.n % 10)
-          c.put-number-end.ensures.out (sym c.put-number-end.ensures.end) (omega (arith, c.put-number-end.ensures.end))
+      end = omega (arith, c.put_number-end.ensures.end);
+      out = pasted_push c.args.out.now c.put_number-end.new.out c.args.p (decimal (c.args.n / 10)) c.put_number-end.result (48 + c.args.n % 10)
+          c.put_number-end.ensures.out (sym c.put_number-end.ensures.end) (omega (arith, c.put_number-end.ensures.end))
           ∙ ap (pasted c.args.out.now c.args.p) (sym (step c.args.n c.if-n-lt10.false f));
     }

@@ -6,7 +6,7 @@ use Rattle.writer.proofs.header.put_field.Goals as goal
 pub returns : goal.returns
 unfolding field
 returns c = record {
-  end = omega (arith, c.put-number-end.ensures.end);
-  out = pasted_push c.args.out.now c.put-number-end.new.out c.args.p (decimal c.args.n) c.put-number-end.result c.args.behind
-      c.put-number-end.ensures.out (sym c.put-number-end.ensures.end) (omega (arith, c.put-number-end.ensures.end));
+  end = omega (arith, c.put_number-end.ensures.end);
+  out = pasted_push c.args.out.now c.put_number-end.new.out c.args.p (decimal c.args.n) c.put_number-end.result c.args.behind
+      c.put_number-end.ensures.out (sym c.put_number-end.ensures.end) (omega (arith, c.put_number-end.ensures.end));
 }

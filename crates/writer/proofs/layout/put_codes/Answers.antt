@@ -7,8 +7,8 @@ use Rattle.writer.proofs.Joins.{length-code_bytes, times_more, room, pasted_turn
 use Rattle.writer.proofs.layout.put_codes.Goals as goal
 use Rattle.writer.proofs.layout.put_codes.Goals.{in-Some, in-default}
 
-pub put-pixel-at-requires : goal.put-pixel-at-requires
-put-pixel-at-requires g c =
+pub put_pixel-at-requires : goal.put_pixel-at-requires
+put_pixel-at-requires g c =
     let h : c.loop-k.k < length c.args.codes.now = omega arith in
     let D : Option g.row.K.Denot → Type 0 = Known g.K.Kind.ops c.args.maxval in
     record {
@@ -31,15 +31,15 @@ loop-k-preserved g c =
     elim c.match-decode.branch [
       | in-Some w ↦
           let d : o.decode (get_or cs k 0) ≡ _ = sym c.decode.ensures ∙ w.in-Some.is in
-          let at : c.match-decode.at ≡ c.args.p + (k + 1) * n = omega (arith, times_more k n, w.at-is, w.put-pixel-at.ensures.end, c.loop-k.invariant.0) in (
+          let at : c.match-decode.at ≡ c.args.p + (k + 1) * n = omega (arith, times_more k n, w.at-is, w.put_pixel-at.ensures.end, c.loop-k.invariant.0) in (
             at,
             pasted_turn (λ j. code_bytes o m (get_or cs j 0)) n (λ j. length-code_bytes o g.met.K.Kind.deep m (get_or cs j 0)) c.args.out.now c.loop-k.out c.match-decode.out
                 c.args.p k c.loop-k.at c.loop-k.invariant.0 (omega (arith, c.requires.room, c.loop-k.invariant.0)) c.loop-k.invariant.1
-                (w.out-is ∙ w.put-pixel-at.ensures.out ∙ ap (λ x. pasted c.loop-k.out c.loop-k.at (decoded_bytes o m x)) (sym d)),
+                (w.out-is ∙ w.put_pixel-at.ensures.out ∙ ap (λ x. pasted c.loop-k.out c.loop-k.at (decoded_bytes o m x)) (sym d)),
           )
       | in-default w ↦
           let D : Option g.row.K.Denot → Type 0 = Known o m in
-          absurd (subst D (sym c.decode.ensures ∙ w.in-default.is) (c.requires.known k h))
+          absurd (subst D (sym c.decode.ensures ∙ w.in_default.is) (c.requires.known k h))
     ]
 
 pub returns : goal.returns

@@ -6,8 +6,8 @@ use Rattle.writer.proofs.Paste.{pasted-none}
 use Rattle.writer.proofs.Joins.{length-sample_bytes, times_more, room, pasted_turn, by_place}
 use Rattle.writer.proofs.layout.put_pixel.Goals as goal
 
-pub put-sample-at-requires : goal.put-sample-at-requires
-put-sample-at-requires g c =
+pub put_sample-at-requires : goal.put_sample-at-requires
+put_sample-at-requires g c =
     let h : c.loop-k.k < g.K.Kind.ops.depth = omega (arith, c.depth-k-end.ensures) in
     record {
       room = omega (arith, room c.loop-k.k g.K.Kind.ops.depth (sample_width c.args.maxval) h);
@@ -25,9 +25,9 @@ loop-k-preserved g c =
     let h : k < g.K.Kind.ops.depth = omega (arith, c.depth-k-end.ensures) in
     let r = room k g.K.Kind.ops.depth (sample_width m) h in (
       omega (arith, times_more k (sample_width m)),
-      pasted_turn (λ j. sample_bytes m (get_or xs j 0)) (sample_width m) (λ j. length-sample_bytes m (get_or xs j 0)) c.args.out.now c.loop-k.out c.put-sample-at.new.out
+      pasted_turn (λ j. sample_bytes m (get_or xs j 0)) (sample_width m) (λ j. length-sample_bytes m (get_or xs j 0)) c.args.out.now c.loop-k.out c.put_sample-at.new.out
           c.args.p k c.loop-k.at c.loop-k.invariant.0 (omega arith) c.loop-k.invariant.1
-          (c.put-sample-at.ensures.out ∙ ap (λ s. pasted c.loop-k.out c.loop-k.at (sample_bytes m s)) c.sample.ensures),
+          (c.put_sample-at.ensures.out ∙ ap (λ s. pasted c.loop-k.out c.loop-k.at (sample_bytes m s)) c.sample.ensures),
     )
 
 pub returns : goal.returns

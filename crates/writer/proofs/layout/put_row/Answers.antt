@@ -6,14 +6,14 @@ use Rattle.writer.proofs.Paste.{pasted-next}
 use Rattle.writer.proofs.Joins.{length-joined, length_parts, length-code_bytes, length-pixel_bytes, times_split}
 use Rattle.writer.proofs.layout.put_row.Goals as goal
 
-pub put-codes-at-requires : goal.put-codes-at-requires
-put-codes-at-requires g c = record {
+pub put_codes-at-requires : goal.put_codes-at-requires
+put_codes-at-requires g c = record {
   room = omega (arith, times_split (length c.args.codes.now) c.args.side (pixel_width g.K.Kind.ops c.args.maxval) c.requires.within);
   known = c.requires.known;
 }
 
-pub put-same-requires : goal.put-same-requires
-put-same-requires g c = record {
+pub put_same-requires : goal.put_same-requires
+put_same-requires g c = record {
   room = omega (arith, times_split (length c.args.codes.now) c.args.side (pixel_width g.K.Kind.ops c.args.maxval) c.requires.within);
   under = c.requires.under;
 }
@@ -28,6 +28,6 @@ returns g c =
     let r = length_parts (λ k. pixel_bytes o m c.args.pad) (pixel_width o m) 0 (c.args.side - length cs) (λ k. length-pixel_bytes o g.met.K.Kind.deep m c.args.pad) in
     record {
       end = omega arith;
-      out = pasted-next c.args.out.now c.put-codes-at.new.out c.put-same.new.out c.args.p (flat_map (code_bytes o m) cs) (repeated (pixel_bytes o m c.args.pad) (c.args.side - length cs))
-          c.put-codes-at.result c.put-codes-at.ensures.out c.put-same.ensures.out (omega arith) (omega arith);
+      out = pasted-next c.args.out.now c.put_codes-at.new.out c.put_same.new.out c.args.p (flat_map (code_bytes o m) cs) (repeated (pixel_bytes o m c.args.pad) (c.args.side - length cs))
+          c.put_codes-at.result c.put_codes-at.ensures.out c.put_same.ensures.out (omega arith) (omega arith);
     }

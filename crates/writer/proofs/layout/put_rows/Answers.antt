@@ -13,21 +13,21 @@ loop-j-init g c = (omega (arith, zero-mul (c.args.side * pixel_width g.K.Kind.op
 row_in : (j high wide len : ℕ) → j < high → high * wide ≤ len → j * wide + wide ≤ len
 row_in j high wide len h r = omega (arith, room j high wide h)
 
-pub overflow-add-j : goal.overflow-add-j
-overflow-add-j g c =
+pub overflow_add-j : goal.overflow_add-j
+overflow_add-j g c =
     let h : c.loop-j.j * c.args.wide + c.args.wide ≤ length c.args.codes.now = row_in c.loop-j.j c.args.high c.args.wide (length c.args.codes.now) c.loop-j-test.true c.requires.codes in
     search rules
 
-pub offset-bounds-codes-j : goal.offset-bounds-codes-j
-offset-bounds-codes-j g c =
+pub offset_bounds-codes-j : goal.offset_bounds-codes-j
+offset_bounds-codes-j g c =
     let h : c.loop-j.j * c.args.wide + c.args.wide ≤ length c.args.codes.now = row_in c.loop-j.j c.args.high c.args.wide (length c.args.codes.now) c.loop-j-test.true c.requires.codes in
     search rules
 
-pub slice-bounds-put-row-end : goal.slice-bounds-put-row-end
-slice-bounds-put-row-end g c = row_in c.loop-j.j c.args.high c.args.wide (length c.args.codes.now) c.loop-j-test.true c.requires.codes
+pub slice_bounds-put_row-end : goal.slice_bounds-put_row-end
+slice_bounds-put_row-end g c = row_in c.loop-j.j c.args.high c.args.wide (length c.args.codes.now) c.loop-j-test.true c.requires.codes
 
-pub put-row-at-requires : goal.put-row-at-requires
-put-row-at-requires g c =
+pub put_row-at-requires : goal.put_row-at-requires
+put_row-at-requires g c =
     let o = g.K.Kind.ops in
     let j = c.loop-j.j in
     let wide = c.args.wide in
@@ -59,6 +59,6 @@ loop-j-preserved g c =
       omega (arith, times_more j n),
       pasted_turn (λ i. row_bytes o m c.args.pad side (take wide (drop (i * wide) cs))) n
           (λ i. length-row_bytes o g.met.K.Kind.deep m c.args.pad side (take wide (drop (i * wide) cs)) (omega (arith, short wide (i * wide) cs, c.requires.within)))
-          c.args.out.now c.loop-j.out c.put-row-at.new.out c.args.p j c.loop-j.at c.loop-j.invariant.0 (omega (arith, room j c.args.high n c.loop-j-test.true)) c.loop-j.invariant.1
-          (c.put-row-at.ensures.out ∙ ap (λ (k : ℕ). pasted c.loop-j.out c.loop-j.at (row_bytes o m c.args.pad side (take k (drop (j * wide) cs)))) nw),
+          c.args.out.now c.loop-j.out c.put_row-at.new.out c.args.p j c.loop-j.at c.loop-j.invariant.0 (omega (arith, room j c.args.high n c.loop-j-test.true)) c.loop-j.invariant.1
+          (c.put_row-at.ensures.out ∙ ap (λ (k : ℕ). pasted c.loop-j.out c.loop-j.at (row_bytes o m c.args.pad side (take k (drop (j * wide) cs)))) nw),
     )

@@ -4,8 +4,8 @@ use Rattle.writer.proofs.Paste.{pasted-none}
 use Rattle.writer.proofs.Joins.{length-pixel_bytes, times_more, room, pasted_turn}
 use Rattle.writer.proofs.layout.put_same.Goals as goal
 
-pub put-pixel-at-requires : goal.put-pixel-at-requires
-put-pixel-at-requires g c =
+pub put_pixel-at-requires : goal.put_pixel-at-requires
+put_pixel-at-requires g c =
     let h : c.loop-k.-k < c.args.count = omega arith in
     record {
       room = omega (arith, room c.loop-k.-k c.args.count (pixel_width g.K.Kind.ops c.args.maxval) h);
@@ -24,6 +24,6 @@ loop-k-preserved g c =
     let h : k < c.args.count = omega arith in
     let r = room k c.args.count n h in (
       omega (arith, times_more k n),
-      pasted_turn (λ j. pixel_bytes o m c.args.pixel) n (λ j. length-pixel_bytes o g.met.K.Kind.deep m c.args.pixel) c.args.out.now c.loop-k.out c.put-pixel-at.new.out
-          c.args.p k c.loop-k.at c.loop-k.invariant.0 (omega arith) c.loop-k.invariant.1 c.put-pixel-at.ensures.out,
+      pasted_turn (λ j. pixel_bytes o m c.args.pixel) n (λ j. length-pixel_bytes o g.met.K.Kind.deep m c.args.pixel) c.args.out.now c.loop-k.out c.put_pixel-at.new.out
+          c.args.p k c.loop-k.at c.loop-k.invariant.0 (omega arith) c.loop-k.invariant.1 c.put_pixel-at.ensures.out,
     )

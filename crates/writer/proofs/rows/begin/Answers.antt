@@ -16,9 +16,9 @@ returns g c =
     let i = (g.P.Picture.model c.args.picture.now).shown in
     let z = c.size-size.result in
     let e = same c.mark-mark.result o.mark z.width i.width z.height i.height z.maxval i.maxval c.mark-mark.ensures c.size-size.ensures.width c.size-size.ensures.height c.size-size.ensures.maxval in
-    let b : Opened o i c.args.out.now c.put-header-bytes.result _ c.put-header-bytes.new.out = record {
-      amounts = c.put-header-bytes.ensures.end ∙ ap length e;
-      writes = c.put-header-bytes.ensures.out ∙ ap (pasted c.args.out.now 0) e ∙ pasted_front c.args.out.now (header_of o i);
+    let b : Opened o i c.args.out.now c.put_header-bytes.result _ c.put_header-bytes.new.out = record {
+      amounts = c.put_header-bytes.ensures.end ∙ ap length e;
+      writes = c.put_header-bytes.ensures.out ∙ ap (pasted c.args.out.now 0) e ∙ pasted_front c.args.out.now (header_of o i);
       width = c.size-size.ensures.width;
       height = c.size-size.ensures.height;
       maxval = c.size-size.ensures.maxval;
@@ -27,5 +27,5 @@ returns g c =
     } in
     record {
       begun = b;
-      whole = joined-file o g.P.Picture.model g.P.Picture.count g.P.Picture.sound g.P.Picture.bare g.met.P.Picture.composed c.args.picture.now c.args.out.now c.put-header-bytes.result _ c.put-header-bytes.new.out c.requires b;
+      whole = joined-file o g.P.Picture.model g.P.Picture.count g.P.Picture.sound g.P.Picture.bare g.met.P.Picture.composed c.args.picture.now c.args.out.now c.put_header-bytes.result _ c.put_header-bytes.new.out c.requires b;
     }

@@ -5,8 +5,8 @@ use Rattle.writer.proofs.Paste.{pasted-next}
 use Rattle.writer.proofs.Joins.{length_parts, length-pixel_bytes, length-rows_bytes, square_split}
 use Rattle.writer.proofs.tile.put_square.Goals as goal
 
-pub put-rows-at-requires : goal.put-rows-at-requires
-put-rows-at-requires g c = record {
+pub put_rows-at-requires : goal.put_rows-at-requires
+put_rows-at-requires g c = record {
   codes = c.requires.codes;
   within = c.requires.across;
   room = omega (arith, square_split c.args.high c.args.side (pixel_width g.K.Kind.ops c.args.maxval) c.requires.down);
@@ -14,8 +14,8 @@ put-rows-at-requires g c = record {
   under = c.requires.under;
 }
 
-pub put-same-requires : goal.put-same-requires
-put-same-requires g c = record {
+pub put_same-requires : goal.put_same-requires
+put_same-requires g c = record {
   room = omega (arith, square_split c.args.high c.args.side (pixel_width g.K.Kind.ops c.args.maxval) c.requires.down);
   under = c.requires.under;
 }
@@ -32,6 +32,6 @@ returns g c =
     let r = length_parts (λ k. pixel_bytes o m c.args.pad) (pixel_width o m) 0 below (λ k. length-pixel_bytes o g.met.K.Kind.deep m c.args.pad) in
     record {
       end = omega arith;
-      out = pasted-next c.args.out.now c.put-rows-at.new.out c.put-same.new.out c.args.p (rows_bytes o m c.args.pad side c.args.wide cs c.args.high) (repeated (pixel_bytes o m c.args.pad) below)
-          c.put-rows-at.result c.put-rows-at.ensures.out c.put-same.ensures.out (omega arith) (omega arith);
+      out = pasted-next c.args.out.now c.put_rows-at.new.out c.put_same.new.out c.args.p (rows_bytes o m c.args.pad side c.args.wide cs c.args.high) (repeated (pixel_bytes o m c.args.pad) below)
+          c.put_rows-at.result c.put_rows-at.ensures.out c.put_same.ensures.out (omega arith) (omega arith);
     }

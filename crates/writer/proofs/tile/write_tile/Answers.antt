@@ -53,7 +53,7 @@ returns-then-work-area g c =
     let is = cut_at z.width i.width z.height i.height c.args.column c.args.row c.args.side x c.size-size.ensures.width c.size-size.ensures.height c.in-Some.ensures in
     let part = squares.cut-part o i c.args.column c.args.row c.args.side x is in
     let places : c.area.result ≡ cut_places o i c.args.column c.args.row c.args.side = c.area.ensures ∙ part.many in
-    let bytes = bytes_are o i c.args.column c.args.row c.args.side z.maxval c.header-bytes.result c.pixel-bytes.result c.size-size.ensures.maxval c.header-bytes.ensures.value c.pixel-bytes.ensures.value in
+    let bytes = bytes_are o i c.args.column c.args.row c.args.side z.maxval c.header_bytes.result c.pixel_bytes.result c.size-size.ensures.maxval c.header_bytes.ensures.value c.pixel_bytes.ensures.value in
     let short : (length c.args.work.now < cut_places o i c.args.column c.args.row c.args.side) ⊎ (length c.args.out.now < tile_width o i c.args.column c.args.row c.args.side) =
     elim c.then-work-area.either [ inl l ↦ inl (omega (arith, l)) | inr l ↦ inr (omega (arith, l.1)) ] in
     record {
@@ -76,7 +76,7 @@ returns-in-Err g c =
     let is = cut_at z.width i.width z.height i.height col row side x c.size-size.ensures.width c.size-size.ensures.height c.in-Some.ensures in
     let part = squares.cut-part o i col row side x is in
     let places : c.area.result ≡ cut_places o i col row side = c.area.ensures ∙ part.many in
-    let bytes = bytes_are o i col row side z.maxval c.header-bytes.result c.pixel-bytes.result c.size-size.ensures.maxval c.header-bytes.ensures.value c.pixel-bytes.ensures.value in
+    let bytes = bytes_are o i col row side z.maxval c.header_bytes.result c.pixel_bytes.result c.size-size.ensures.maxval c.header_bytes.ensures.value c.pixel_bytes.ensures.value in
     let room : cut_places o i col row side ≤ length work = omega (arith, c.if-work-area.false) in
     let e = squares.end_open o i col row side (length work) (length out) is.there room (omega (arith, c.if-out-bytes.false)) in
     record {
@@ -84,8 +84,8 @@ returns-in-Err g c =
           c.prepare.new.self c.prepare.new.buffer part room c.in-Err.refusal (tile_end o i col row side (length work) (length out)) e c.in-Err.ensures;
     }
 
-pub put-square-end-requires : goal.put-square-end-requires
-put-square-end-requires g c =
+pub put_square-end-requires : goal.put_square-end-requires
+put_square-end-requires g c =
     let o = g.Pixel.Kind.ops in
     let p = c.args.picture.now in
     let i = (g.P.Picture.model p).shown in
@@ -109,8 +109,8 @@ put-square-end-requires g c =
       down = omega (arith, is.height);
       small = squares.small o i col row side x is;
       room =
-          let n : side * side * c.pixel-bytes.result ≡ side * side * pixel_width o z.maxval = ap (λ k. side * side * k) c.pixel-bytes.ensures.value in
-          omega (arith, c.if-out-bytes.false, c.put-header-head.ensures.end, c.header-bytes.ensures.value c.mark.result, c.put-header-head.auto.out);
+          let n : side * side * c.pixel_bytes.result ≡ side * side * pixel_width o z.maxval = ap (λ k. side * side * k) c.pixel_bytes.ensures.value in
+          omega (arith, c.if-out-bytes.false, c.put_header-head.ensures.end, c.header_bytes.ensures.value c.mark.result, c.put_header-head.auto.out);
       known = λ k h.
           let D : List ℕ → Type 0 = λ t. Known o z.maxval (o.decode (get_or t k 0)) in
           let E : ℕ → Type 0 = λ m. Known o m (o.decode (get_or (put None (λ j. code_at o (place_of (cut o i col row side) j)) (cut_places o i col row side) work) k 0)) in
@@ -135,7 +135,7 @@ returns g c =
     let part = squares.cut-part o i col row side x is in
     let places : c.area.result ≡ cut_places o i col row side = c.area.ensures ∙ part.many in
     let room : cut_places o i col row side ≤ length work = omega (arith, c.if-work-area.false) in
-    let bytes = bytes_are o i col row side z.maxval c.header-bytes.result c.pixel-bytes.result c.size-size.ensures.maxval c.header-bytes.ensures.value c.pixel-bytes.ensures.value in
+    let bytes = bytes_are o i col row side z.maxval c.header_bytes.result c.pixel_bytes.result c.size-size.ensures.maxval c.header_bytes.ensures.value c.pixel_bytes.ensures.value in
     let fit : tile_width o i col row side ≤ length out = omega (arith, c.if-out-bytes.false) in
     let e = squares.end_open o i col row side (length work) (length out) is.there room fit in
     let buffer = c.prepare.new.buffer in
@@ -149,9 +149,9 @@ returns g c =
     let long : cut_places o i col row side ≤ length buffer = omega (arith, c.prepare.auto.buffer) in
     record {
       part = ends.done_wrote o g.P.Picture.model g.P.Picture.count g.P.Picture.sound (place_of (cut o i col row side)) (cut_places o i col row side) (file o (tile o i col row side)) p work out x
-          c.prepare.new.self buffer part room c.in-Ok.ensures (tile_end o i col row side (length work) (length out)) (c.header-bytes.result + side * side * c.pixel-bytes.result) c.put-square-end.new.out e
+          c.prepare.new.self buffer part room c.in-Ok.ensures (tile_end o i col row side (length work) (length out)) (c.header_bytes.result + side * side * c.pixel_bytes.result) c.put_square-end.new.out e
           (bytes ∙ sym (squares.file_long o i col row side pad ground g.met.Pixel.Kind.decodes buffer clean shown long g.met.Pixel.Kind.deep))
-          (squares.file-written o i col row side pad ground g.met.Pixel.Kind.decodes buffer clean shown long g.met.Pixel.Kind.deep out c.put-header-head.new.out c.put-square-end.new.out
-          c.mark.result x.width x.height z.maxval c.put-header-head.result c.mark.ensures is.width is.height c.size-size.ensures.maxval
-          c.put-header-head.ensures.out c.put-header-head.ensures.end c.put-square-end.ensures.out fit);
+          (squares.file-written o i col row side pad ground g.met.Pixel.Kind.decodes buffer clean shown long g.met.Pixel.Kind.deep out c.put_header-head.new.out c.put_square-end.new.out
+          c.mark.result x.width x.height z.maxval c.put_header-head.result c.mark.ensures is.width is.height c.size-size.ensures.maxval
+          c.put_header-head.ensures.out c.put_header-head.ensures.end c.put_square-end.ensures.out fit);
     }

@@ -38,11 +38,11 @@ loop-writer-init g c =
       },
     )
 
-pub slice-bounds-strip-count : goal.slice-bounds-strip-count
-slice-bounds-strip-count g c = wholes.end_in g.Pixel.Kind.ops (g.P.Picture.model c.args.picture.now).shown c.loop-writer.writer c.args.head c.loop-writer.end c.args.out.now c.loop-writer.out c.loop-writer.invariant.2
+pub slice_bounds-strip-count : goal.slice_bounds-strip-count
+slice_bounds-strip-count g c = wholes.end_in g.Pixel.Kind.ops (g.P.Picture.model c.args.picture.now).shown c.loop-writer.writer c.args.head c.loop-writer.end c.args.out.now c.loop-writer.out c.loop-writer.invariant.2
 
-pub slice-bounds-strip-start : goal.slice-bounds-strip-start
-slice-bounds-strip-start g c =
+pub slice_bounds-strip-start : goal.slice_bounds-strip-start
+slice_bounds-strip-start g c =
     let h = wholes.end_in g.Pixel.Kind.ops (g.P.Picture.model c.args.picture.now).shown c.loop-writer.writer c.args.head c.loop-writer.end c.args.out.now c.loop-writer.out c.loop-writer.invariant.2 in
     search rules
 
@@ -65,8 +65,8 @@ went g c =
     (wholes.turned o g.P.Picture.model g.P.Picture.count g.P.Picture.sound i c.loop-writer.picture c.args.height v c.loop-writer.work part (Ok c.in-Ok.bytes) c.strip.new.picture c.strip.new.self
     c.strip.new.work c.strip.new.out e x) refl x.size x.mark
 
-pub overflow-add-end : goal.overflow-add-end
-overflow-add-end g c =
+pub overflow_add-end : goal.overflow_add-end
+overflow_add-end g c =
     let f = (went g c).1 in
     let h : c.loop-writer.end + c.in-Ok.bytes ≤ length c.args.out.now =
     let l = f.long in

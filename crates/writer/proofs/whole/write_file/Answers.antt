@@ -33,20 +33,20 @@ returns-then-work-wide g c =
     let i = (g.P.Picture.model c.args.picture.now).shown in
     let z = c.size-size.result in
     let s = c.args.height in
-    let by = bytes_are o i z c.size-size.ensures.width c.size-size.ensures.height c.size-size.ensures.maxval c.header-bytes.result c.pixel-bytes.result c.header-bytes.ensures.value c.pixel-bytes.ensures.value in
+    let by = bytes_are o i z c.size-size.ensures.width c.size-size.ensures.height c.size-size.ensures.maxval c.header_bytes.result c.pixel_bytes.result c.header_bytes.ensures.value c.pixel_bytes.ensures.value in
     let co = codes_are o i z c.size-size.ensures.width c.size-size.ensures.height c.size-size.ensures.maxval s c.min.result c.min.ensures in
     let short : (length c.args.work.now < i.width * min s i.height) ⊎ (length c.args.out.now < file_width o i) =
     elim c.then-work-wide.either [ inl l ↦ inl (omega (arith, l)) | inr l ↦ inr (omega (arith, l.1)) ] in
     wholes.early_filed o g.P.Picture.model g.P.Picture.count g.P.Picture.sound c.args.picture.now s c.args.work.now c.args.out.now 11 BufferTooShort
     (wholes.end_short o i s (length c.args.work.now) (length c.args.out.now) c.if-height-eq0.false short) refl c.requires
 
-pub put-strips-requires : goal.put-strips-requires
-put-strips-requires g c =
+pub put_strips-requires : goal.put_strips-requires
+put_strips-requires g c =
     let o = g.Pixel.Kind.ops in
     let i = (g.P.Picture.model c.args.picture.now).shown in
     let z = c.size-size.result in
     let s = c.args.height in
-    let by = bytes_are o i z c.size-size.ensures.width c.size-size.ensures.height c.size-size.ensures.maxval c.header-bytes.result c.pixel-bytes.result c.header-bytes.ensures.value c.pixel-bytes.ensures.value in
+    let by = bytes_are o i z c.size-size.ensures.width c.size-size.ensures.height c.size-size.ensures.maxval c.header_bytes.result c.pixel_bytes.result c.header_bytes.ensures.value c.pixel_bytes.ensures.value in
     let co = codes_are o i z c.size-size.ensures.width c.size-size.ensures.height c.size-size.ensures.maxval s c.min.result c.min.ensures in
     let x = c.in-Ok.ensures.begun in
     let w = c.in-Ok.begun.1 in
@@ -67,26 +67,26 @@ returns-in-Ok g c =
     let i = (g.P.Picture.model c.args.picture.now).shown in
     let z = c.size-size.result in
     let s = c.args.height in
-    let by = bytes_are o i z c.size-size.ensures.width c.size-size.ensures.height c.size-size.ensures.maxval c.header-bytes.result c.pixel-bytes.result c.header-bytes.ensures.value c.pixel-bytes.ensures.value in
+    let by = bytes_are o i z c.size-size.ensures.width c.size-size.ensures.height c.size-size.ensures.maxval c.header_bytes.result c.pixel_bytes.result c.header_bytes.ensures.value c.pixel_bytes.ensures.value in
     let co = codes_are o i z c.size-size.ensures.width c.size-size.ensures.height c.size-size.ensures.maxval s c.min.result c.min.ensures in
     let x = c.in-Ok.ensures.begun in
-    wholes.filed o g.P.Picture.model g.P.Picture.count g.P.Picture.sound c.args.picture.now s c.args.work.now c.args.out.now c.put-strips.result c.put-strips.new.picture c.put-strips.new.work
-    c.put-strips.new.out (first_fault (place_of i) (i.width * i.height))
+    wholes.filed o g.P.Picture.model g.P.Picture.count g.P.Picture.sound c.args.picture.now s c.args.work.now c.args.out.now c.put_strips.result c.put_strips.new.picture c.put_strips.new.work
+    c.put_strips.new.out (first_fault (place_of i) (i.width * i.height))
     (wholes.end_room o i s (length c.args.work.now) (length c.args.out.now) c.if-height-eq0.false (omega (arith, c.if-work-wide.false)) (omega (arith, c.if-out-bytes.false)))
-    c.put-strips.ensures.answers
+    c.put_strips.ensures.answers
     (λ d.
-    let w = c.put-strips.ensures.writes d in
-    let long = wholes.raster_long o g.met.Pixel.Kind.deep i (sym d ∙ c.put-strips.ensures.answers) in (
-      wholes.file-written o i c.args.out.now c.begin.new.out c.put-strips.new.out c.in-Ok.begun.0 x.writes x.amounts w.0 (omega (arith, c.if-out-bytes.false, x.amounts)),
+    let w = c.put_strips.ensures.writes d in
+    let long = wholes.raster_long o g.met.Pixel.Kind.deep i (sym d ∙ c.put_strips.ensures.answers) in (
+      wholes.file-written o i c.args.out.now c.begin.new.out c.put_strips.new.out c.in-Ok.begun.0 x.writes x.amounts w.0 (omega (arith, c.if-out-bytes.false, x.amounts)),
       w.1 ∙ ap (λ n. n + length (raster o i)) x.amounts ∙ sym (length-append (header_of o i) (raster o i)),
     ))
-    c.put-strips.ensures.keeps c.put-strips.ensures.stays
+    c.put_strips.ensures.keeps c.put_strips.ensures.stays
 
 pub returns-in-Err : goal.returns-in-Err
 returns-in-Err g c =
     let o = g.Pixel.Kind.ops in
     let i = (g.P.Picture.model c.args.picture.now).shown in
     let z = c.size-size.result in
-    let by = bytes_are o i z c.size-size.ensures.width c.size-size.ensures.height c.size-size.ensures.maxval c.header-bytes.result c.pixel-bytes.result c.header-bytes.ensures.value c.pixel-bytes.ensures.value in
+    let by = bytes_are o i z c.size-size.ensures.width c.size-size.ensures.height c.size-size.ensures.maxval c.header_bytes.result c.pixel_bytes.result c.header_bytes.ensures.value c.pixel_bytes.ensures.value in
     let x = c.in-Err.ensures.begun.0 in
     absurd (omega (arith, c.if-out-bytes.false))

@@ -6,8 +6,8 @@ use Rattle.layer.proofs.Parting.{can_read, coded-mixed}
 use Rattle.layer.specs.Placing.{kept_times, stood_inside, stood_still}
 use Rattle.layer.proofs.layer.Layer.blend_part.Goals as goal
 
-pub draw-part-requires : goal.draw-part-requires
-draw-part-requires g c =
+pub draw_part-requires : goal.draw_part-requires
+draw_part-requires g c =
     let l = c.args.self.now in
     let b = (g.P.Picture.model l.below).shown in
     let p = c.args.part in
@@ -29,15 +29,15 @@ returns g c =
     let w = g.W.Weights.weighs c.args.weights in
     let fits : SFits w32 c.args.offset = search rules in
     record {
-      laid = λ z. let d = c.draw-part.ensures.laid z in
+      laid = λ z. let d = c.draw_part.ensures.laid z in
           laid_as c.args.rect p.left p.top p.width p.height _ _ _ _
           (λ u v k a q φ m.
           coded-mixed o b g.met.Pixel.Kind.decodes n w c.args.scale c.args.offset d.0 (u - p.left) (v - p.top) φ d.1 m
           ∙ ap (λ x. Some (o.code (o.finish (summed o (lens_pixel o d.0 n (u - p.left) (v - p.top)) w (n.columns * n.rows)) c.args.scale c.args.offset x))) (sym c.requires.sound.1.maxval)
           ∙ ap (λ x. Some (o.code (o.finish (summed o (lens_pixel o d.0 n (u - p.left) (v - p.top)) w (n.columns * n.rows)) c.args.scale x l.size.maxval))) (sym (to_z-of_z fits))
           ∙ ap Some (sym q)) d.2;
-      spared = c.draw-part.ensures.spared;
-      rest = c.draw-part.ensures.rest;
-      kept = kept_times o g.P.Picture.model g.P.Picture.count _ _ c.draw-part.ensures.keeps c.draw-part.ensures.counts refl refl refl;
-      sound = (c.draw-part.ensures.sound, stood_still b l.step l.size _ (ap (λ m. m.shown) c.draw-part.ensures.keeps) c.requires.sound.1);
+      spared = c.draw_part.ensures.spared;
+      rest = c.draw_part.ensures.rest;
+      kept = kept_times o g.P.Picture.model g.P.Picture.count _ _ c.draw_part.ensures.keeps c.draw_part.ensures.counts refl refl refl;
+      sound = (c.draw_part.ensures.sound, stood_still b l.step l.size _ (ap (λ m. m.shown) c.draw_part.ensures.keeps) c.requires.sound.1);
     }

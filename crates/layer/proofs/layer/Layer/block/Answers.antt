@@ -19,8 +19,8 @@ aim-requires g c =
       down = omega (arith, c.requires.down, k.bottom, stood_high b l.step l.size c.requires.sound.1);
     }
 
-pub draw-part-requires : goal.draw-part-requires
-draw-part-requires g c =
+pub draw_part-requires : goal.draw_part-requires
+draw_part-requires g c =
     let l = c.args.self.now in
     let b = (g.P.Picture.model l.below).shown in
     let p = c.args.part in
@@ -35,8 +35,8 @@ draw-part-requires g c =
       room = c.requires.room;
     }
 
-pub blend-part-requires : goal.blend-part-requires
-blend-part-requires g c =
+pub blend_part-requires : goal.blend_part-requires
+blend_part-requires g c =
     let a = c.in-Mean.ensures in
     record {
       sound = c.requires.sound;
@@ -48,15 +48,15 @@ blend-part-requires g c =
       room = c.requires.room;
     }
 
-pub blend-part-requires-in-Masked : goal.blend-part-requires-in-Masked
-blend-part-requires-in-Masked g c =
+pub blend_part-requires-in-Masked : goal.blend_part-requires-in-Masked
+blend_part-requires-in-Masked g c =
     let a = c.in-Masked.ensures in
     record {
       sound = c.requires.sound;
       inside = a.0;
       few = a.2.few;
-      light = light_mask c.in-Masked.mask _ c.of-mask-mask.ensures.weights;
-      scale = omega (arith, mask_scaled c.in-Masked.mask, c.of-mask-mask.ensures.scale);
+      light = light_mask c.in-Masked.mask _ c.of_mask-mask.ensures.weights;
+      scale = omega (arith, mask_scaled c.in-Masked.mask, c.of_mask-mask.ensures.scale);
       part = c.requires.part;
       room = c.requires.room;
     }
@@ -100,17 +100,17 @@ returns-in-Copy g c =
     let p = c.args.part in
     let a = c.in-Copy.ensures in
     record {
-      laid = λ z. let d = c.draw-part.ensures.laid z in
+      laid = λ z. let d = c.draw_part.ensures.laid z in
           shows_drawn o b l.step l.size c.args.rect p _ _ _ c.requires.sound.1
           (λ i j k li lj q.
           let ei : i ≡ p.left + i - p.left = omega arith in
           let ej : j ≡ p.top + j - p.top = omega arith in
           coded_carried o b c.in-Copy.carry d.0 i j _ d.1 (a.1 i j li lj)
           ∙ ap Some (ap (λ x. get_or d.0 (walked c.in-Copy.carry x j) 0) ei ∙ ap (λ y. get_or d.0 (walked c.in-Copy.carry (p.left + i - p.left) y) 0) ej ∙ sym q)) d.2;
-      spared = c.draw-part.ensures.spared;
-      rest = c.draw-part.ensures.rest;
-      kept = kept_times o g.P.Picture.model g.P.Picture.count _ _ c.draw-part.ensures.keeps c.draw-part.ensures.counts refl refl refl;
-      sound = (c.draw-part.ensures.sound, stood_still b l.step l.size _ (ap (λ m. m.shown) c.draw-part.ensures.keeps) c.requires.sound.1);
+      spared = c.draw_part.ensures.spared;
+      rest = c.draw_part.ensures.rest;
+      kept = kept_times o g.P.Picture.model g.P.Picture.count _ _ c.draw_part.ensures.keeps c.draw_part.ensures.counts refl refl refl;
+      sound = (c.draw_part.ensures.sound, stood_still b l.step l.size _ (ap (λ m. m.shown) c.draw_part.ensures.keeps) c.requires.sound.1);
       quiet = λ n. absurd (carried_needs (formula l.step l.size.width l.size.height) p c.in-Copy.carry a.1 n);
     }
 
@@ -124,11 +124,11 @@ returns-in-Mean g c =
     let a = c.in-Mean.ensures in
     record {
       laid = λ z. shows_drawn o b l.step l.size c.args.rect p _ _ _ c.requires.sound.1
-          (λ i j k li lj q. q _ (mixed_at n ones (n.columns * n.rows) (pos 0) i j p _ (a.1 i j li lj))) (c.blend-part.ensures.laid z);
-      spared = c.blend-part.ensures.spared;
-      rest = c.blend-part.ensures.rest;
-      kept = c.blend-part.ensures.kept;
-      sound = c.blend-part.ensures.sound;
+          (λ i j k li lj q. q _ (mixed_at n ones (n.columns * n.rows) (pos 0) i j p _ (a.1 i j li lj))) (c.blend_part.ensures.laid z);
+      spared = c.blend_part.ensures.spared;
+      rest = c.blend_part.ensures.rest;
+      kept = c.blend_part.ensures.kept;
+      sound = c.blend_part.ensures.sound;
       quiet = λ k. absurd (mixed_needs (formula l.step l.size.width l.size.height) p n ones (n.columns * n.rows) (pos 0) a.1 k);
     }
 
@@ -140,18 +140,18 @@ returns-in-Masked g c =
     let p = c.args.part in
     let n = c.in-Masked.lens in
     let m = c.in-Masked.mask in
-    let s = c.of-mask-mask.result in
+    let s = c.of_mask-mask.result in
     let a = c.in-Masked.ensures in
     let fits : SFits w32 s.offset = search rules in
     record {
       laid = λ z. shows_drawn o b l.step l.size c.args.rect p _ _ _ c.requires.sound.1
           (λ i j k li lj q. q _ (mixed_at n (λ k. get_or s.weights k (pos 0)) s.scale _ i j p _
-          (mixed_as n (weights_of m) (λ k. get_or s.weights k (pos 0)) (kernel m).scale s.scale (kernel m).offset _ i j _ (λ k. ap (λ x. get_or x k (pos 0)) (sym c.of-mask-mask.ensures.weights))
-          (sym c.of-mask-mask.ensures.scale) (sym c.of-mask-mask.ensures.offset ∙ sym (to_z-of_z fits)) (a.1 i j li lj)))) (c.blend-part-in-Masked.ensures.laid z);
-      spared = c.blend-part-in-Masked.ensures.spared;
-      rest = c.blend-part-in-Masked.ensures.rest;
-      kept = c.blend-part-in-Masked.ensures.kept;
-      sound = c.blend-part-in-Masked.ensures.sound;
+          (mixed_as n (weights_of m) (λ k. get_or s.weights k (pos 0)) (kernel m).scale s.scale (kernel m).offset _ i j _ (λ k. ap (λ x. get_or x k (pos 0)) (sym c.of_mask-mask.ensures.weights))
+          (sym c.of_mask-mask.ensures.scale) (sym c.of_mask-mask.ensures.offset ∙ sym (to_z-of_z fits)) (a.1 i j li lj)))) (c.blend_part-in-Masked.ensures.laid z);
+      spared = c.blend_part-in-Masked.ensures.spared;
+      rest = c.blend_part-in-Masked.ensures.rest;
+      kept = c.blend_part-in-Masked.ensures.kept;
+      sound = c.blend_part-in-Masked.ensures.sound;
       quiet = λ k. absurd (mixed_needs (formula l.step l.size.width l.size.height) p n (weights_of m) (kernel m).scale (kernel m).offset a.1 k);
     }
 

@@ -6,8 +6,8 @@ use Rattle.layer.proofs.layer.Layer.exact.Goals as goal
 pub loop-j-init : goal.loop-j-init
 loop-j-init g c = (laid_no_rows _ _ _ _ _ _, refl, kept-none g.Pixel.Kind.ops g.P.Picture.model g.P.Picture.count _ _ refl refl refl refl, c.requires.sound)
 
-pub exact-row-requires : goal.exact-row-requires
-exact-row-requires g c =
+pub exact_row-requires : goal.exact_row-requires
+exact_row-requires g c =
     let v = kept_shows g.Pixel.Kind.ops g.P.Picture.model g.P.Picture.count c.args.self.now c.loop-j.self c.loop-j.invariant.2 in
     record {
       sound = c.loop-j.invariant.3;
@@ -24,18 +24,18 @@ loop-j-preserved g c =
     let v = kept_shows o g.P.Picture.model g.P.Picture.count c.args.self.now c.loop-j.self c.loop-j.invariant.2 in
     let k = c.requires.part in (
       laid_above _ _ _ _ _ 1 _ _ _ _ (record { left = k.left; top = k.top; right = k.right; bottom = omega (arith, k.bottom) }) c.loop-j.invariant.0
-          (laid_view o _ _ c.args.whole _ _ _ _ _ _ (ap (λ m. m.shown) (sym v)) (c.exact-row.ensures.laid c.if-not-exact-row.false)),
-      c.exact-row.ensures.rest ∙ c.loop-j.invariant.1,
-      kept_follows o g.P.Picture.model g.P.Picture.count c.args.self.now c.loop-j.self c.exact-row.new.self c.loop-j.invariant.2 c.exact-row.ensures.kept,
-      c.exact-row.ensures.sound,
+          (laid_view o _ _ c.args.whole _ _ _ _ _ _ (ap (λ m. m.shown) (sym v)) (c.exact_row.ensures.laid c.if-not-exact_row.false)),
+      c.exact_row.ensures.rest ∙ c.loop-j.invariant.1,
+      kept_follows o g.P.Picture.model g.P.Picture.count c.args.self.now c.loop-j.self c.exact_row.new.self c.loop-j.invariant.2 c.exact_row.ensures.kept,
+      c.exact_row.ensures.sound,
     )
 
-pub returns-then-not-exact-row : goal.returns-then-not-exact-row
-returns-then-not-exact-row g c = record {
+pub returns-then-not-exact_row : goal.returns-then-not-exact_row
+returns-then-not-exact_row g c = record {
   laid = λ z. let n : ◌≡◌ {A = ℕ} 0 1 = cc in absurd (omega arith);
-  rest = c.exact-row.ensures.rest ∙ c.loop-j.invariant.1;
-  kept = kept_follows g.Pixel.Kind.ops g.P.Picture.model g.P.Picture.count c.args.self.now c.loop-j.self c.exact-row.new.self c.loop-j.invariant.2 c.exact-row.ensures.kept;
-  sound = c.exact-row.ensures.sound;
+  rest = c.exact_row.ensures.rest ∙ c.loop-j.invariant.1;
+  kept = kept_follows g.Pixel.Kind.ops g.P.Picture.model g.P.Picture.count c.args.self.now c.loop-j.self c.exact_row.new.self c.loop-j.invariant.2 c.exact_row.ensures.kept;
+  sound = c.exact_row.ensures.sound;
 }
 
 pub returns : goal.returns

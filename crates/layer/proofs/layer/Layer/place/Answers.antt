@@ -33,8 +33,8 @@ blend-requires-in-Masked g c =
       inside = stood_inside b l.step l.size c.in-Masked.lens.at c.requires.sound.1 a.0;
       lens = lone;
       room = search rules;
-      light = light_mask c.in-Masked.mask _ c.of-mask-mask.ensures.weights;
-      scale = omega (arith, mask_scaled c.in-Masked.mask, c.of-mask-mask.ensures.scale);
+      light = light_mask c.in-Masked.mask _ c.of_mask-mask.ensures.weights;
+      scale = omega (arith, mask_scaled c.in-Masked.mask, c.of_mask-mask.ensures.scale);
       maxval = c.requires.sound.1.maxval;
     }
 
@@ -97,12 +97,12 @@ returns-in-Masked g c =
     let b = (g.P.Picture.model l.below).shown in
     let p = c.rect.result in
     let m = c.in-Masked.mask in
-    let s = c.of-mask-mask.result in
+    let s = c.of_mask-mask.result in
     let fits : SFits w32 s.offset = search rules in
     record {
       answer = c.blend-in-Masked.ensures.answer (formula l.step l.size.width l.size.height (p.left + 0) (p.top + 0))
-          (mixed_as c.in-Masked.lens (weights_of m) (λ k. get_or s.weights k (pos 0)) (kernel m).scale s.scale (kernel m).offset _ 0 0 _ (λ k. ap (λ z. get_or z k (pos 0)) (sym c.of-mask-mask.ensures.weights))
-          (sym c.of-mask-mask.ensures.scale) (sym c.of-mask-mask.ensures.offset ∙ sym (to_z-of_z fits)) (c.in-Masked.ensures.1 0 0 p.wide p.high))
+          (mixed_as c.in-Masked.lens (weights_of m) (λ k. get_or s.weights k (pos 0)) (kernel m).scale s.scale (kernel m).offset _ 0 0 _ (λ k. ap (λ z. get_or z k (pos 0)) (sym c.of_mask-mask.ensures.weights))
+          (sym c.of_mask-mask.ensures.scale) (sym c.of_mask-mask.ensures.offset ∙ sym (to_z-of_z fits)) (c.in-Masked.ensures.1 0 0 p.wide p.high))
           ∙ ap (λ z. located o (taken o b.maxval b.at z)) (stood b l.step l.size _ _ c.args.u c.args.v c.requires.sound.1 (omega (arith, c.rect.ensures.left)) (omega (arith, c.rect.ensures.top)));
       kept = kept_one o g.P.Picture.model g.P.Picture.count _ _ c.blend-in-Masked.ensures.keeps c.blend-in-Masked.ensures.counts refl refl refl;
       sound = (c.blend-in-Masked.ensures.sound, stood_still b l.step l.size _ (ap (λ z. z.shown) c.blend-in-Masked.ensures.keeps) c.requires.sound.1);

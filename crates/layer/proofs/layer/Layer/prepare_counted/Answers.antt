@@ -20,12 +20,12 @@ returns-then-rect-wide g c =
     let r = c.args.rect in
     let w = stood_wide b l.step l.size c.requires.1 in
     let h = stood_high b l.step l.size c.requires.1 in
-    let up_one : c.saturating-add-self.result ≡ up l.count = search rules in
+    let up_one : c.saturating_add-self.result ≡ up l.count = search rules in
     let t = c.args.buffer.now in
     let s : (refused 10 [] ≡ answer i r (length t)) × (t ≡ filled o i r t) =
     elim c.then-rect-wide.branch [
-      | then-rect-wide-via-then-rect-wide q ↦ refused_across o i r t (omega (arith, q.if-rect-wide.true, c.width-of-wide.ensures))
-      | then-rect-wide-via-else-rect-wide+then-rect-high q ↦ refused_down o i r t (omega (arith, q.if-rect-high.true, c.height-of-high.ensures))
+      | then-rect-wide-via-then-rect-wide q ↦ refused_across o i r t (omega (arith, q.if-rect-wide.true, c.width_of-wide.ensures))
+      | then-rect-wide-via-else-rect-wide+then-rect-high q ↦ refused_down o i r t (omega (arith, q.if-rect-high.true, c.height_of-high.ensures))
     ] in
     record {
       prepared = record { answers = s.0; fills = s.1; counts = up_one; keeps = refl; stays = c.requires };
@@ -42,8 +42,8 @@ returns-then-area-buffer g c =
     let r = c.args.rect in
     let w = stood_wide b l.step l.size c.requires.1 in
     let h = stood_high b l.step l.size c.requires.1 in
-    let up_one : c.saturating-add-self.result ≡ up l.count = search rules in
-    let s = refused_short o i r c.args.buffer.now (omega (arith, c.width-of-wide.ensures)) (omega (arith, c.height-of-high.ensures)) (omega (arith, c.area.ensures)) in
+    let up_one : c.saturating_add-self.result ≡ up l.count = search rules in
+    let s = refused_short o i r c.args.buffer.now (omega (arith, c.width_of-wide.ensures)) (omega (arith, c.height_of-high.ensures)) (omega (arith, c.area.ensures)) in
     record {
       prepared = record { answers = s.0; fills = s.1; counts = up_one; keeps = refl; stays = c.requires };
       asked = record { times = 0; counts = refl; grows = λ e. omega arith; outside = λ e. refl; short = λ e. refl; needless = λ e. refl };
@@ -59,11 +59,11 @@ returns-then-tile g c =
     let i = (model_of o model l).shown in
     let r = c.args.rect in
     let k = c.tile.ensures.kept in
-    let x : r.left + r.width ≤ i.width = omega (arith, c.width-of-wide.ensures, stood_wide b l.step l.size c.requires.1) in
-    let y : r.top + r.height ≤ i.height = omega (arith, c.height-of-high.ensures, stood_high b l.step l.size c.requires.1) in
+    let x : r.left + r.width ≤ i.width = omega (arith, c.width_of-wide.ensures, stood_wide b l.step l.size c.requires.1) in
+    let y : r.top + r.height ≤ i.height = omega (arith, c.height_of-high.ensures, stood_high b l.step l.size c.requires.1) in
     let z : area r ≤ length c.args.buffer.now = omega (arith, c.area.ensures) in
     let s = served_pieces o i r c.args.buffer.now c.tile.new.buffer x y z c.tile.auto.buffer (c.tile.ensures.laid c.if-tile.true) c.tile.ensures.rest in
-    let up_one : c.saturating-add-self.result ≡ up l.count = search rules in
+    let up_one : c.saturating_add-self.result ≡ up l.count = search rules in
     record {
       prepared = record { answers = s.0; fills = s.1; counts = sym k.count ∙ up_one; keeps = sym (kept_shows o model count _ c.tile.new.self k); stays = c.tile.ensures.sound };
       asked = record {
@@ -86,13 +86,13 @@ returns g c =
     let i = (model_of o model l).shown in
     let r = c.args.rect in
     let k = c.tile.ensures.kept in
-    let x : r.left + r.width ≤ i.width = omega (arith, c.width-of-wide.ensures, stood_wide b l.step l.size c.requires.1) in
-    let y : r.top + r.height ≤ i.height = omega (arith, c.height-of-high.ensures, stood_high b l.step l.size c.requires.1) in
+    let x : r.left + r.width ≤ i.width = omega (arith, c.width_of-wide.ensures, stood_wide b l.step l.size c.requires.1) in
+    let y : r.top + r.height ≤ i.height = omega (arith, c.height_of-high.ensures, stood_high b l.step l.size c.requires.1) in
     let z : area r ≤ length c.args.buffer.now = omega (arith, c.area.ensures) in
     let v = ap (λ m. m.shown) (kept_shows o model count _ c.tile.new.self k) in
     let s = served_rows o i r _ _ c.args.buffer.now c.tile.new.buffer c.serve.new.buffer x y z c.tile.auto.buffer v c.tile.ensures.rest c.serve.ensures.answer c.serve.ensures.buffer in
     let j = kept_follows o model count _ c.tile.new.self c.serve.new.rows k c.serve.ensures.same in
-    let up_one : c.saturating-add-self.result ≡ up l.count = search rules in
+    let up_one : c.saturating_add-self.result ≡ up l.count = search rules in
     let told = s.0 ∙ answer_is i r (length c.args.buffer.now) x y z in
     record {
       prepared = record { answers = s.0; fills = s.1; counts = sym j.count ∙ up_one; keeps = sym (kept_shows o model count _ c.serve.new.rows j); stays = c.serve.ensures.ready };

@@ -8,28 +8,28 @@ use Rattle.source.specs.Files.{raster_image}
 use Rattle.source.specs.Rasters.{Lawful, ends_above, ends_lacking, ends_whole, shown-append}
 use Rattle.source.proofs.file.FileSource.run.Goals as goal
 
-pub read-pixels-pixels-requires : goal.read-pixels-pixels-requires
-read-pixels-pixels-requires g c =
+pub read_pixels-pixels-requires : goal.read_pixels-pixels-requires
+read_pixels-pixels-requires g c =
     let l : length c.args.self.now.block ≡ 6144 = search rules in
-    record { some = c.pixel-bytes-step.ensures.some; room = omega (arith, mul-le-mul c.requires.short c.pixel-bytes-step.ensures.few) }
+    record { some = c.pixel_bytes-step.ensures.some; room = omega (arith, mul-le-mul c.requires.short c.pixel_bytes-step.ensures.few) }
 
 pub decode-taken-requires : goal.decode-taken-requires
 decode-taken-requires g c =
-    let n = c.read-pixels-pixels.result.pixels in
+    let n = c.read_pixels-pixels.result.pixels in
     let x = g.K.Kind.ops.depth * sample_bytes (wide c.args.self.now.raster.size.maxval) in
     let l : length c.args.self.now.block ≡ 6144 = search rules in
-    let few : n ≤ 1024 = omega (arith, c.requires.short, c.read-pixels-pixels.ensures.within) in
-    let b : n * c.pixel-bytes-step.result ≤ 6144 = omega (arith, mul-le-mul few c.pixel-bytes-step.ensures.few) in
-    let e : length (take (n - 0) c.args.out.now) ≡ n = simp length-take (omega (arith, c.read-pixels-pixels.ensures.within)) in
-    omega (arith, ap (λ z. z * x) e, ap (λ z. n * z) c.pixel-bytes-step.ensures.value, c.read-pixels-pixels.auto.block)
+    let few : n ≤ 1024 = omega (arith, c.requires.short, c.read_pixels-pixels.ensures.within) in
+    let b : n * c.pixel_bytes-step.result ≤ 6144 = omega (arith, mul-le-mul few c.pixel_bytes-step.ensures.few) in
+    let e : length (take (n - 0) c.args.out.now) ≡ n = simp length-take (omega (arith, c.read_pixels-pixels.ensures.within)) in
+    omega (arith, ap (λ z. z * x) e, ap (λ z. n * z) c.pixel_bytes-step.ensures.value, c.read_pixels-pixels.auto.block)
 
 pub returns-then-taken-pixels : goal.returns-then-taken-pixels
 returns-then-taken-pixels g c =
     let r = c.args.self.now.raster in
     let laws : Lawful g.K.Kind.ops = record { coded = g.met.K.Kind.coded; sampled = g.met.K.Kind.sampled } in
     let e = ends_above g.K.Kind.ops (capped (g.S.Store.at c.args.self.now.store)) r c.args.left c.args.row
-    c.pixel-bytes-step.result (length c.args.out.now) c.read-pixels-pixels.result.pixels _ c.decode-taken.result c.read-pixels-pixels.result.lack
-    c.read-pixels-pixels.new.block c.decode-taken.new.out laws c.pixel-bytes-step.ensures.value (simp length-take (omega (arith, c.read-pixels-pixels.ensures.within))) c.read-pixels-pixels.ensures c.decode-taken.ensures
+    c.pixel_bytes-step.result (length c.args.out.now) c.read_pixels-pixels.result.pixels _ c.decode-taken.result c.read_pixels-pixels.result.lack
+    c.read_pixels-pixels.new.block c.decode-taken.new.out laws c.pixel_bytes-step.ensures.value (simp length-take (omega (arith, c.read_pixels-pixels.ensures.within))) c.read_pixels-pixels.ensures c.decode-taken.ensures
     c.if-taken-pixels.true in
     record {
       answer = e;
@@ -44,10 +44,10 @@ returns-in-None g c =
     let r = c.args.self.now.raster in
     let o = g.K.Kind.ops in
     let laws : Lawful g.K.Kind.ops = record { coded = g.met.K.Kind.coded; sampled = g.met.K.Kind.sampled } in
-    let d : length c.decode-taken.new.out ≡ c.read-pixels-pixels.result.pixels = c.decode-taken.auto.out ∙ simp length-take (omega (arith, c.read-pixels-pixels.ensures.within)) in
+    let d : length c.decode-taken.new.out ≡ c.read_pixels-pixels.result.pixels = c.decode-taken.auto.out ∙ simp length-take (omega (arith, c.read_pixels-pixels.ensures.within)) in
     let e = ends_whole o (capped (g.S.Store.at c.args.self.now.store)) r c.args.left c.args.row
-    c.pixel-bytes-step.result (length c.args.out.now) c.read-pixels-pixels.result.pixels _ c.decode-taken.result c.read-pixels-pixels.result.lack
-    c.read-pixels-pixels.new.block c.decode-taken.new.out laws c.pixel-bytes-step.ensures.value (simp length-take (omega (arith, c.read-pixels-pixels.ensures.within))) c.read-pixels-pixels.ensures c.decode-taken.ensures
+    c.pixel_bytes-step.result (length c.args.out.now) c.read_pixels-pixels.result.pixels _ c.decode-taken.result c.read_pixels-pixels.result.lack
+    c.read_pixels-pixels.new.block c.decode-taken.new.out laws c.pixel_bytes-step.ensures.value (simp length-take (omega (arith, c.read_pixels-pixels.ensures.within))) c.read_pixels-pixels.ensures c.decode-taken.ensures
     c.in-None.is c.if-taken-pixels.false in
     let f = lined (raster_image o (capped (g.S.Store.at c.args.self.now.store)) r) c.args.left c.args.row in
     record {
@@ -63,8 +63,8 @@ returns-in-Some g c =
     let r = c.args.self.now.raster in
     let laws : Lawful g.K.Kind.ops = record { coded = g.met.K.Kind.coded; sampled = g.met.K.Kind.sampled } in
     let e = ends_lacking g.K.Kind.ops (capped (g.S.Store.at c.args.self.now.store)) r c.args.left c.args.row
-    c.pixel-bytes-step.result (length c.args.out.now) c.read-pixels-pixels.result.pixels _ c.decode-taken.result c.read-pixels-pixels.result.lack
-    c.read-pixels-pixels.new.block c.decode-taken.new.out laws c.pixel-bytes-step.ensures.value (simp length-take (omega (arith, c.read-pixels-pixels.ensures.within))) c.read-pixels-pixels.ensures c.decode-taken.ensures
+    c.pixel_bytes-step.result (length c.args.out.now) c.read_pixels-pixels.result.pixels _ c.decode-taken.result c.read_pixels-pixels.result.lack
+    c.read_pixels-pixels.new.block c.decode-taken.new.out laws c.pixel_bytes-step.ensures.value (simp length-take (omega (arith, c.read_pixels-pixels.ensures.within))) c.read_pixels-pixels.ensures c.decode-taken.ensures
     c.in-Some.cause c.in-Some.is c.if-taken-pixels.false in
     record {
       answer = e;

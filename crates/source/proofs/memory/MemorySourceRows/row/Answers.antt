@@ -8,8 +8,8 @@ use Rattle.source.specs.Rasters.{first_at}
 use Rattle.source.specs.Remembering.{row_hole, row_more}
 use Rattle.source.proofs.memory.MemorySourceRows.row.Goals as goal
 
-pub returns-then-not-is-pixel : goal.returns-then-not-is-pixel
-returns-then-not-is-pixel g c =
+pub returns-then-not-is_pixel : goal.returns-then-not-is_pixel
+returns-then-not-is_pixel g c =
     let o = g.K.Kind.ops in
     let self = c.args.self.now in
     let codes = g.C.Codes.codes self.codes in
@@ -17,7 +17,7 @@ returns-then-not-is-pixel g c =
     record {
       answer = ap or_fault (sym (first_at o f c.loop-k.k (length c.args.out.now) (fault_at self.source (c.args.left + c.loop-k.k) c.args.row NoPixel) (omega arith)
           (shown_clean o f c.loop-k.k c.loop-k.out c.loop-k.invariant)
-          (row_hole o codes self.size self.source c.args.left c.args.row c.loop-k.k c.get-code.result c.get-code.ensures (sym c.is-pixel.ensures ∙ c.if-not-is-pixel.true))));
+          (row_hole o codes self.size self.source c.args.left c.args.row c.loop-k.k c.get-code.result c.get-code.ensures (sym c.is_pixel.ensures ∙ c.if-not-is_pixel.true))));
       shown = λ z. let n : ◌≡◌ {A = ℕ} 0 1 = cc in absurd (omega arith);
       same = refl;
       ready = tt;
@@ -28,7 +28,7 @@ loop-k-preserved g c =
     let o = g.K.Kind.ops in
     let self = c.args.self.now in
     row_more o (g.C.Codes.codes self.codes) self.size self.source c.args.left c.args.row c.loop-k.k c.get-code.result c.loop-k.out
-    g.met.K.Kind.recodes c.get-code.ensures (sym c.is-pixel.ensures ∙ c.if-not-is-pixel.false) (omega arith) c.loop-k.invariant
+    g.met.K.Kind.recodes c.get-code.ensures (sym c.is_pixel.ensures ∙ c.if-not-is_pixel.false) (omega arith) c.loop-k.invariant
 
 pub returns : goal.returns
 returns g c =

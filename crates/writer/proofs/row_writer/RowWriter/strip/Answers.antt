@@ -53,7 +53,7 @@ returns-then-work-places g c =
     let w = c.args.self.now in
     let s = c.args.height in
     let pl = places_are w s c.min-rows.result c.min-rows.ensures in
-    let by = bytes_are w s c.min-rows.result c.pixel-bytes.result (pixel_width o w.size.maxval) c.min-rows.ensures c.pixel-bytes.ensures.value in
+    let by = bytes_are w s c.min-rows.result c.pixel_bytes.result (pixel_width o w.size.maxval) c.min-rows.ensures c.pixel_bytes.ensures.value in
     let short : (length c.args.work.now < places_of w s) ⊎ (length c.args.out.now < places_of w s * pixel_width o w.size.maxval) =
     elim c.then-work-places.either [ inl p ↦ inl (omega arith) | inr p ↦ inr (omega (arith, p.1)) ] in
     let e = nexts.end_short o i w s (length c.args.work.now) (length c.args.out.now) (sym c.if-not-serves.ensures) (λ z. c.if-rows-eq0.false (c.min-rows.ensures ∙ z)) short in
@@ -75,7 +75,7 @@ returns-in-Err g c =
     let out = c.args.out.now in
     let fit = sym c.if-not-serves.ensures in
     let pl = places_are w s c.min-rows.result c.min-rows.ensures in
-    let by = bytes_are w s c.min-rows.result c.pixel-bytes.result (pixel_width o w.size.maxval) c.min-rows.ensures c.pixel-bytes.ensures.value in
+    let by = bytes_are w s c.min-rows.result c.pixel_bytes.result (pixel_width o w.size.maxval) c.min-rows.ensures c.pixel_bytes.ensures.value in
     let r = c.part-part.result in
     let room : places_of w s ≤ length work = omega (arith, c.if-work-places.false) in
     let part = nexts.rows_part o i w fit s r c.part-part.ensures.left c.part-part.ensures.top c.part-part.ensures.width (c.part-part.ensures.height ∙ c.min-rows.ensures) in
@@ -89,8 +89,8 @@ returns-in-Err g c =
       mark = refl;
     }
 
-pub put-codes-end-requires : goal.put-codes-end-requires
-put-codes-end-requires g c =
+pub put_codes-end-requires : goal.put_codes-end-requires
+put_codes-end-requires g c =
     let o = g.Pixel.Kind.ops in
     let p = c.args.picture.now in
     let i = (g.P.Picture.model p).shown in
@@ -100,7 +100,7 @@ put-codes-end-requires g c =
     let fit = sym c.if-not-serves.ensures in
     let n = w.size.width * c.min-rows.result in
     let pl = places_are w s c.min-rows.result c.min-rows.ensures in
-    let by = bytes_are w s c.min-rows.result c.pixel-bytes.result (pixel_width o w.size.maxval) c.min-rows.ensures c.pixel-bytes.ensures.value in
+    let by = bytes_are w s c.min-rows.result c.pixel_bytes.result (pixel_width o w.size.maxval) c.min-rows.ensures c.pixel_bytes.ensures.value in
     let r = c.part-part.result in
     let room : places_of w s ≤ length work = omega (arith, c.if-work-places.false) in
     let part = nexts.rows_part o i w fit s r c.part-part.ensures.left c.part-part.ensures.top c.part-part.ensures.width (c.part-part.ensures.height ∙ c.min-rows.ensures) in
@@ -129,7 +129,7 @@ returns g c =
     let out = c.args.out.now in
     let fit = sym c.if-not-serves.ensures in
     let pl = places_are w s c.min-rows.result c.min-rows.ensures in
-    let by = bytes_are w s c.min-rows.result c.pixel-bytes.result (pixel_width o w.size.maxval) c.min-rows.ensures c.pixel-bytes.ensures.value in
+    let by = bytes_are w s c.min-rows.result c.pixel_bytes.result (pixel_width o w.size.maxval) c.min-rows.ensures c.pixel_bytes.ensures.value in
     let r = c.part-part.result in
     let room : places_of w s ≤ length work = omega (arith, c.if-work-places.false) in
     let part = nexts.rows_part o i w fit s r c.part-part.ensures.left c.part-part.ensures.top c.part-part.ensures.width (c.part-part.ensures.height ∙ c.min-rows.ensures) in
@@ -143,8 +143,8 @@ returns g c =
     ∙ codes.codes_reading o g.met.Pixel.Kind.decodes i (w.size.width * w.next) (places_of w s) work clean in
     let long = codes.reading_long o g.met.Pixel.Kind.deep i (w.size.width * w.next) (places_of w s) clean ∙ ap (λ k. places_of w s * pixel_width o k) (sym (nexts.as_bright o i w fit)) in
     let h = ends.done_wrote o g.P.Picture.model g.P.Picture.count g.P.Picture.sound (ahead i w) (places_of w s) (strip_bytes o i w s) p work out r c.prepare.new.self c.prepare.new.buffer part room c.in-Ok.ensures
-    (strip_end o i w s (length work) (length out)) (w.size.width * c.min-rows.result * c.pixel-bytes.result) c.put-codes-end.new.out e (by ∙ sym long)
-    (c.put-codes-end.ensures.out ∙ ap (pasted out 0) read ∙ pasted_front out (strip_bytes o i w s)) in
+    (strip_end o i w s (length work) (length out)) (w.size.width * c.min-rows.result * c.pixel_bytes.result) c.put_codes-end.new.out e (by ∙ sym long)
+    (c.put_codes-end.ensures.out ∙ ap (pasted out 0) read ∙ pasted_front out (strip_bytes o i w s)) in
     record {
       part = h;
       next = let z = ends.full (strip_end o i w s (length work) (length out)) (rows_of w s) h.answers in ap (λ k. w.next + k) (c.min-rows.ensures ∙ sym z);
