@@ -58,7 +58,7 @@ returns-then-not-visit g c =
 
 pub loop-k-preserved : goal.loop-k-preserved
 loop-k-preserved g c =
-    let o = g.Pixel.Kind.ops in
+    let o = g.P.Pixel.Kind.ops in
     let b = (g.P.Picture.model c.args.below.now).shown in
     let s = c.args.shape in
     let rect = c.args.rect in

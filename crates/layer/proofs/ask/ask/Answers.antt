@@ -5,7 +5,7 @@ use Rattle.layer.proofs.ask.ask.Goals as goal
 
 pub returns-in-Ok : goal.returns-in-Ok
 returns-in-Ok g c =
-    let o = g.Pixel.Kind.ops in
+    let o = g.P.Pixel.Kind.ops in
     let i = (g.P.Picture.model c.args.below.now).shown in
     let none = asked_ok o i c.args.at _ c.requires.inside c.requires.room c.in-Ok.ensures.answers in
     record {

@@ -22,7 +22,7 @@ ask-requires g c =
 
 pub mix-pixel-requires : goal.mix-pixel-requires
 mix-pixel-requires g c =
-    let o = g.Pixel.Kind.ops in
+    let o = g.P.Pixel.Kind.ops in
     let b = (g.P.Picture.model c.args.below.now).shown in
     let l = c.args.lens in
     let w : l.at.width ≤ l.columns = omega (arith, c.requires.lens.wide) in
@@ -32,7 +32,7 @@ mix-pixel-requires g c =
         few = c.requires.lens.few;
         near = (omega arith, omega arith);
         room = omega (arith, mul-le l.at.width l.at.height l.columns l.rows w h, c.requires.lens.few.few, c.requires.room, c.ask.auto.codes);
-        pixels = λ k lt. reads_some o g.met.Pixel.Kind.decodes (nth b l.at k) _ (c.ask.ensures.shown c.in-Ok.is k lt);
+        pixels = λ k lt. reads_some o g.met.P.Pixel.Kind.decodes (nth b l.at k) _ (c.ask.ensures.shown c.in-Ok.is k lt);
       };
       light = c.requires.light;
       scale = c.requires.scale;
@@ -40,7 +40,7 @@ mix-pixel-requires g c =
 
 pub returns-in-Ok : goal.returns-in-Ok
 returns-in-Ok g c =
-    let o = g.Pixel.Kind.ops in
+    let o = g.P.Pixel.Kind.ops in
     let b = (g.P.Picture.model c.args.below.now).shown in
     let l = c.args.lens in
     let w = g.W.Weights.weighs c.args.weights.now in
@@ -50,7 +50,7 @@ returns-in-Ok g c =
       answer = λ φ m.
           ap Ok (c.code.ensures ∙ ap o.code (c.mix-pixel.ensures
           ∙ ap (λ z. o.finish s c.args.scale z c.args.maxval) (to_z-of_z fits) ∙ ap (o.finish s c.args.scale c.args.offset) c.requires.maxval))
-          ∙ ap (located o) (sym (mixed_pixel o b g.met.Pixel.Kind.decodes l w c.args.scale c.args.offset c.ask.new.codes 0 0 φ (c.ask.ensures.shown c.in-Ok.is) m));
+          ∙ ap (located o) (sym (mixed_pixel o b g.met.P.Pixel.Kind.decodes l w c.args.scale c.args.offset c.ask.new.codes 0 0 φ (c.ask.ensures.shown c.in-Ok.is) m));
       keeps = c.ask.ensures.keeps;
       counts = c.ask.ensures.counts;
       sound = c.ask.ensures.sound;
@@ -58,7 +58,7 @@ returns-in-Ok g c =
 
 pub returns-in-Err : goal.returns-in-Err
 returns-in-Err g c =
-    let o = g.Pixel.Kind.ops in
+    let o = g.P.Pixel.Kind.ops in
     let b = (g.P.Picture.model c.args.below.now).shown in
     let l = c.args.lens in
     let w = g.W.Weights.weighs c.args.weights.now in

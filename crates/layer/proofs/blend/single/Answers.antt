@@ -6,7 +6,7 @@ use Rattle.layer.proofs.blend.single.Goals as goal
 
 pub returns-in-Ok : goal.returns-in-Ok
 returns-in-Ok g c =
-    let o = g.Pixel.Kind.ops in
+    let o = g.P.Pixel.Kind.ops in
     let b = (g.P.Picture.model c.args.below.now).shown in
     record {
       answer = λ φ m. let p = carried_place o b c.args.carry 0 0 φ m in
@@ -18,7 +18,7 @@ returns-in-Ok g c =
 
 pub returns-in-Err : goal.returns-in-Err
 returns-in-Err g c =
-    let o = g.Pixel.Kind.ops in
+    let o = g.P.Pixel.Kind.ops in
     let b = (g.P.Picture.model c.args.below.now).shown in
     record {
       answer = λ φ m. let p = carried_place o b c.args.carry 0 0 φ m in

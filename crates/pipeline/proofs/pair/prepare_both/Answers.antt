@@ -8,7 +8,7 @@ returns g c = record {
   answered-first = c.prepare-one.ensures.answered;
   answered-second = c.prepare-two.ensures.answered;
   alike =
-      agree g.Pixel.Kind.ops
+      agree g.P.Pixel.Kind.ops
       g.P.Picture.model g.P.Picture.count g.P.Picture.sound g.P.Picture.bare
       g.Q.Picture.model g.Q.Picture.count g.Q.Picture.sound g.Q.Picture.bare
       g.met.P.Picture.composed g.met.Q.Picture.composed

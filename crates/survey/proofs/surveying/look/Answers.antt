@@ -17,7 +17,7 @@ returns-in-Ok g c =
     let e = flat_done i r l t w (length before) h c.requires.across c.requires.down c.requires.room c.in-Ok.ensures.answers in
     record {
       answer = ap or_fault (sym e);
-      codes = λ _. flat_shown g.Pixel.Kind.ops i r l t w before c.prepare.new.buffer h c.requires.across c.requires.down c.requires.room c.prepare.ensures.fills e;
+      codes = λ _. flat_shown g.P.Pixel.Kind.ops i r l t w before c.prepare.new.buffer h c.requires.across c.requires.down c.requires.room c.prepare.ensures.fills e;
       kept = c.prepare.ensures.keeps;
       quick = omega (arith, c.prepare.ensures.counts);
       sound = c.prepare.ensures.stays;

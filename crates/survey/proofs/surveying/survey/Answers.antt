@@ -39,7 +39,7 @@ look-requires g c =
 
 pub note_pixels-survey-requires : goal.note_pixels-survey-requires
 note_pixels-survey-requires g c =
-    let o = g.Pixel.Kind.ops in
+    let o = g.P.Pixel.Kind.ops in
     let i = (g.P.Picture.model c.args.picture.now).shown in
     let j = (g.P.Picture.model c.loop-place.picture).shown in
     let s = c.size-size.result in
@@ -52,12 +52,12 @@ note_pixels-survey-requires g c =
     let e : seen c.loop-place.survey ≡ place = ap seen c.loop-place.invariant.value ∙ seen-surveyed o i place in
     record {
       room = omega (arith, e, m, length-take-le n codes l, c.stretch-n.ensures.left);
-      codes = taken_some o g.met.Pixel.Kind.decodes (lined j (place % s.width) (place / s.width)) n codes l (c.look.ensures.codes c.in-Ok.is);
+      codes = taken_some o g.met.P.Pixel.Kind.decodes (lined j (place % s.width) (place / s.width)) n codes l (c.look.ensures.codes c.in-Ok.is);
     }
 
 pub loop-place-preserved-in-Ok : goal.loop-place-preserved-in-Ok
 loop-place-preserved-in-Ok g c =
-    let o = g.Pixel.Kind.ops in
+    let o = g.P.Pixel.Kind.ops in
     let i = (g.P.Picture.model c.args.picture.now).shown in
     let j = (g.P.Picture.model c.loop-place.picture).shown in
     let w = c.size-size.result.width in
@@ -83,12 +83,12 @@ note_hole-survey-requires g c =
     let s = c.size-size.result in
     let b : c.min-count.result ≤ s.width * s.height = omega (arith, c.min-count.ensures) in
     let m = few s.width s.height c.min-count.result s.across s.down b in
-    let e : seen c.loop-place.survey ≡ c.loop-place.place = ap seen c.loop-place.invariant.value ∙ seen-surveyed g.Pixel.Kind.ops i c.loop-place.place in
+    let e : seen c.loop-place.survey ≡ c.loop-place.place = ap seen c.loop-place.invariant.value ∙ seen-surveyed g.P.Pixel.Kind.ops i c.loop-place.place in
     omega (arith, e, m, c.loop-place-test.true)
 
 pub loop-place-preserved-then-n-eq1 : goal.loop-place-preserved-then-n-eq1
 loop-place-preserved-then-n-eq1 g c =
-    let o = g.Pixel.Kind.ops in
+    let o = g.P.Pixel.Kind.ops in
     let i = (g.P.Picture.model c.args.picture.now).shown in
     let j = (g.P.Picture.model c.loop-place.picture).shown in
     let w = c.size-size.result.width in
@@ -123,7 +123,7 @@ loop-place-preserved g c =
 
 pub returns : goal.returns
 returns g c =
-    let o = g.Pixel.Kind.ops in
+    let o = g.P.Pixel.Kind.ops in
     let i = (g.P.Picture.model c.args.picture.now).shown in
     let s = c.size-size.result in
     let n = min c.args.places (i.width * i.height) in
@@ -133,7 +133,7 @@ returns g c =
     let v : c.loop-place.survey ≡ surveyed o i n = c.loop-place.invariant.value ∙ ap (surveyed o i) e in
     record {
       value = v;
-      law = subst (Account o (reading i) n) (sym v) (account o (λ p. omega (arith, g.met.Pixel.Kind.deep p, g.met.Pixel.Kind.few.0)) (reading i) n);
+      law = subst (Account o (reading i) n) (sym v) (account o (λ p. omega (arith, g.met.P.Pixel.Kind.deep p, g.met.P.Pixel.Kind.few.0)) (reading i) n);
       kept = c.loop-place.invariant.kept;
       quick = omega (arith, c.loop-place.invariant.spent.few);
       sound = c.loop-place.invariant.sound;

@@ -5,7 +5,7 @@ use Rattle.writer.specs.Layout.{pasted, code_bytes, decoded_bytes, Known}
 use Rattle.writer.proofs.Paste.{pasted-none}
 use Rattle.writer.proofs.Joins.{length-code_bytes, times_more, room, pasted_turn, by_place}
 use Rattle.writer.proofs.layout.put_codes.Goals as goal
-use Rattle.writer.proofs.layout.put_codes.Goals.{in-Some, in-default}
+use Rattle.writer.proofs.layout.put_codes.Goals.{in-Some, in_default}
 
 pub put_pixel-at-requires : goal.put_pixel-at-requires
 put_pixel-at-requires g c =
@@ -37,7 +37,7 @@ loop-k-preserved g c =
                 c.args.p k c.loop-k.at c.loop-k.invariant.0 (omega (arith, c.requires.room, c.loop-k.invariant.0)) c.loop-k.invariant.1
                 (w.out-is ∙ w.put_pixel-at.ensures.out ∙ ap (λ x. pasted c.loop-k.out c.loop-k.at (decoded_bytes o m x)) (sym d)),
           )
-      | in-default w ↦
+      | in_default w ↦
           let D : Option g.row.K.Denot → Type 0 = Known o m in
           absurd (subst D (sym c.decode.ensures ∙ w.in_default.is) (c.requires.known k h))
     ]

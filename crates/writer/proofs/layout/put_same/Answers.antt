@@ -6,9 +6,9 @@ use Rattle.writer.proofs.layout.put_same.Goals as goal
 
 pub put_pixel-at-requires : goal.put_pixel-at-requires
 put_pixel-at-requires g c =
-    let h : c.loop-k.-k < c.args.count = omega arith in
+    let h : c.loop-k._k < c.args.count = omega arith in
     record {
-      room = omega (arith, room c.loop-k.-k c.args.count (pixel_width g.K.Kind.ops c.args.maxval) h);
+      room = omega (arith, room c.loop-k._k c.args.count (pixel_width g.K.Kind.ops c.args.maxval) h);
       under = c.requires.under;
     }
 
@@ -19,7 +19,7 @@ pub loop-k-preserved : goal.loop-k-preserved
 loop-k-preserved g c =
     let o = g.K.Kind.ops in
     let m = c.args.maxval in
-    let k = c.loop-k.-k in
+    let k = c.loop-k._k in
     let n = pixel_width o m in
     let h : k < c.args.count = omega arith in
     let r = room k c.args.count n h in (

@@ -12,7 +12,7 @@ same k k' w w' h h' m m' a b c d = cc
 
 pub returns : goal.returns
 returns g c =
-    let o = g.Pixel.Kind.ops in
+    let o = g.P.Pixel.Kind.ops in
     let i = (g.P.Picture.model c.args.picture.now).shown in
     let z = c.size-size.result in
     let e = same c.mark-mark.result o.mark z.width i.width z.height i.height z.maxval i.maxval c.mark-mark.ensures c.size-size.ensures.width c.size-size.ensures.height c.size-size.ensures.maxval in

@@ -17,7 +17,7 @@ use Rattle.writer.proofs.tile.write_tile.Goals as goal
 
 pub returns-in-None : goal.returns-in-None
 returns-in-None g c =
-    let o = g.Pixel.Kind.ops in
+    let o = g.P.Pixel.Kind.ops in
     let p = c.args.picture.now in
     let i = (g.P.Picture.model p).shown in
     let z = c.size-size.result in
@@ -45,7 +45,7 @@ cut_at W W' H H' c r side x e f k =
 
 pub returns-then-work-area : goal.returns-then-work-area
 returns-then-work-area g c =
-    let o = g.Pixel.Kind.ops in
+    let o = g.P.Pixel.Kind.ops in
     let p = c.args.picture.now in
     let i = (g.P.Picture.model p).shown in
     let z = c.size-size.result in
@@ -63,7 +63,7 @@ returns-then-work-area g c =
 
 pub returns-in-Err : goal.returns-in-Err
 returns-in-Err g c =
-    let o = g.Pixel.Kind.ops in
+    let o = g.P.Pixel.Kind.ops in
     let p = c.args.picture.now in
     let i = (g.P.Picture.model p).shown in
     let z = c.size-size.result in
@@ -86,7 +86,7 @@ returns-in-Err g c =
 
 pub put_square-end-requires : goal.put_square-end-requires
 put_square-end-requires g c =
-    let o = g.Pixel.Kind.ops in
+    let o = g.P.Pixel.Kind.ops in
     let p = c.args.picture.now in
     let i = (g.P.Picture.model p).shown in
     let z = c.size-size.result in
@@ -115,13 +115,13 @@ put_square-end-requires g c =
           let D : List ℕ → Type 0 = λ t. Known o z.maxval (o.decode (get_or t k 0)) in
           let E : ℕ → Type 0 = λ m. Known o m (o.decode (get_or (put None (λ j. code_at o (place_of (cut o i col row side) j)) (cut_places o i col row side) work) k 0)) in
           subst D (sym are) (subst E (sym c.size-size.ensures.maxval)
-          (codes.known o g.met.Pixel.Kind.decodes i.maxval (place_of (cut o i col row side)) (cut_places o i col row side) work clean (squares.cut_dim o i col row side x is (g.met.P.Picture.bounded p c.requires)) k (omega arith)));
+          (codes.known o g.met.P.Pixel.Kind.decodes i.maxval (place_of (cut o i col row side)) (cut_places o i col row side) work clean (squares.cut_dim o i col row side x is (g.met.P.Picture.bounded p c.requires)) k (omega arith)));
       under = c.padding-pad.ensures.under;
     }
 
 pub returns : goal.returns
 returns g c =
-    let o = g.Pixel.Kind.ops in
+    let o = g.P.Pixel.Kind.ops in
     let p = c.args.picture.now in
     let i = (g.P.Picture.model p).shown in
     let z = c.size-size.result in
@@ -150,8 +150,8 @@ returns g c =
     record {
       part = ends.done_wrote o g.P.Picture.model g.P.Picture.count g.P.Picture.sound (place_of (cut o i col row side)) (cut_places o i col row side) (file o (tile o i col row side)) p work out x
           c.prepare.new.self buffer part room c.in-Ok.ensures (tile_end o i col row side (length work) (length out)) (c.header_bytes.result + side * side * c.pixel_bytes.result) c.put_square-end.new.out e
-          (bytes ∙ sym (squares.file_long o i col row side pad ground g.met.Pixel.Kind.decodes buffer clean shown long g.met.Pixel.Kind.deep))
-          (squares.file-written o i col row side pad ground g.met.Pixel.Kind.decodes buffer clean shown long g.met.Pixel.Kind.deep out c.put_header-head.new.out c.put_square-end.new.out
+          (bytes ∙ sym (squares.file_long o i col row side pad ground g.met.P.Pixel.Kind.decodes buffer clean shown long g.met.P.Pixel.Kind.deep))
+          (squares.file-written o i col row side pad ground g.met.P.Pixel.Kind.decodes buffer clean shown long g.met.P.Pixel.Kind.deep out c.put_header-head.new.out c.put_square-end.new.out
           c.mark.result x.width x.height z.maxval c.put_header-head.result c.mark.ensures is.width is.height c.size-size.ensures.maxval
           c.put_header-head.ensures.out c.put_header-head.ensures.end c.put_square-end.ensures.out fit);
     }

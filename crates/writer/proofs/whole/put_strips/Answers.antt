@@ -22,7 +22,7 @@ not_done e h = let z : ◌≡◌ {A = ℕ} 0 1 = cc in omega arith
 
 pub loop-writer-init : goal.loop-writer-init
 loop-writer-init g c =
-    let o = g.Pixel.Kind.ops in
+    let o = g.P.Pixel.Kind.ops in
     let i = (g.P.Picture.model c.args.picture.now).shown in
     let w = c.args.writer in
     let n : i.width * w.next ≡ 0 = ap (λ k. i.width * k) c.requires.begun ∙ mul-zero i.width in (
@@ -39,20 +39,20 @@ loop-writer-init g c =
     )
 
 pub slice_bounds-strip-count : goal.slice_bounds-strip-count
-slice_bounds-strip-count g c = wholes.end_in g.Pixel.Kind.ops (g.P.Picture.model c.args.picture.now).shown c.loop-writer.writer c.args.head c.loop-writer.end c.args.out.now c.loop-writer.out c.loop-writer.invariant.2
+slice_bounds-strip-count g c = wholes.end_in g.P.Pixel.Kind.ops (g.P.Picture.model c.args.picture.now).shown c.loop-writer.writer c.args.head c.loop-writer.end c.args.out.now c.loop-writer.out c.loop-writer.invariant.2
 
 pub slice_bounds-strip-start : goal.slice_bounds-strip-start
 slice_bounds-strip-start g c =
-    let h = wholes.end_in g.Pixel.Kind.ops (g.P.Picture.model c.args.picture.now).shown c.loop-writer.writer c.args.head c.loop-writer.end c.args.out.now c.loop-writer.out c.loop-writer.invariant.2 in
+    let h = wholes.end_in g.P.Pixel.Kind.ops (g.P.Picture.model c.args.picture.now).shown c.loop-writer.writer c.args.head c.loop-writer.end c.args.out.now c.loop-writer.out c.loop-writer.invariant.2 in
     search rules
 
 -- a strip that was answered
 went : (g : given.Over) (c : goal.In-Ok g)
     → (c.strip.new.self.next ≡ c.loop-writer.writer.next + rows_of c.loop-writer.writer c.args.height)
-    × wholes.Far g.Pixel.Kind.ops (g.P.Picture.model c.args.picture.now).shown c.strip.new.self c.args.head (c.loop-writer.end + c.in-Ok.bytes) c.args.out.now
+    × wholes.Far g.P.Pixel.Kind.ops (g.P.Picture.model c.args.picture.now).shown c.strip.new.self c.args.head (c.loop-writer.end + c.in-Ok.bytes) c.args.out.now
     (put_mid c.loop-writer.end (length c.loop-writer.out - c.loop-writer.end) c.loop-writer.out c.strip.new.out)
 went g c =
-    let o = g.Pixel.Kind.ops in
+    let o = g.P.Pixel.Kind.ops in
     let i = (g.P.Picture.model c.args.picture.now).shown in
     let v = c.loop-writer.writer in
     let end = c.loop-writer.end in
@@ -61,7 +61,7 @@ went g c =
     let x = c.in-Ok.ensures in
     let e : (g.P.Picture.model c.loop-writer.picture).shown ≡ i = ap (λ (m : Model g.row.P-Pixel.Denot). m.shown) c.loop-writer.invariant.0 in
     wholes.turn_wrote o i v c.args.head end c.args.out.now out c.loop-writer.invariant.2 c.args.height (length c.loop-writer.work) part c.loop-writer-test.true c.requires.some
-    (let h = c.loop-writer.auto.work in let k = c.requires.codes in omega arith) (behind_long out end) g.met.Pixel.Kind.deep c.in-Ok.bytes c.strip.new.self c.strip.new.out
+    (let h = c.loop-writer.auto.work in let k = c.requires.codes in omega arith) (behind_long out end) g.met.P.Pixel.Kind.deep c.in-Ok.bytes c.strip.new.self c.strip.new.out
     (wholes.turned o g.P.Picture.model g.P.Picture.count g.P.Picture.sound i c.loop-writer.picture c.args.height v c.loop-writer.work part (Ok c.in-Ok.bytes) c.strip.new.picture c.strip.new.self
     c.strip.new.work c.strip.new.out e x) refl x.size x.mark
 
@@ -70,7 +70,7 @@ overflow_add-end g c =
     let f = (went g c).1 in
     let h : c.loop-writer.end + c.in-Ok.bytes ≤ length c.args.out.now =
     let l = f.long in
-    omega (arith, wholes.end_in g.Pixel.Kind.ops (g.P.Picture.model c.args.picture.now).shown c.strip.new.self c.args.head (c.loop-writer.end + c.in-Ok.bytes) c.args.out.now _ f) in
+    omega (arith, wholes.end_in g.P.Pixel.Kind.ops (g.P.Picture.model c.args.picture.now).shown c.strip.new.self c.args.head (c.loop-writer.end + c.in-Ok.bytes) c.args.out.now _ f) in
     search rules
 
 pub loop-writer-preserved : goal.loop-writer-preserved
@@ -85,7 +85,7 @@ loop-writer-smaller g c = fewer c.loop-writer.writer c.strip.new.self c.args.hei
 
 pub returns-in-Err : goal.returns-in-Err
 returns-in-Err g c =
-    let o = g.Pixel.Kind.ops in
+    let o = g.P.Pixel.Kind.ops in
     let i = (g.P.Picture.model c.args.picture.now).shown in
     let v = c.loop-writer.writer in
     let end = c.loop-writer.end in
@@ -105,9 +105,9 @@ returns-in-Err g c =
 
 pub returns-in-Ok-finish : goal.returns-in-Ok-finish
 returns-in-Ok-finish g c =
-    let o = g.Pixel.Kind.ops in
+    let o = g.P.Pixel.Kind.ops in
     let i = (g.P.Picture.model c.args.picture.now).shown in
-    let w = wholes.all_written o i c.loop-writer.writer c.args.head c.loop-writer.end c.args.out.now c.loop-writer.out c.loop-writer.invariant.2 g.met.Pixel.Kind.deep c.in-Ok-finish.ensures in
+    let w = wholes.all_written o i c.loop-writer.writer c.args.head c.loop-writer.end c.args.out.now c.loop-writer.out c.loop-writer.invariant.2 g.met.P.Pixel.Kind.deep c.in-Ok-finish.ensures in
     record {
       answers = ap (λ z. end_outcome (ending None z)) (sym w.0);
       writes = λ z. (w.1, w.2);

@@ -24,12 +24,12 @@ module _ {K S : Type 0} (o : Ops K S) (i : Image K) (z : Size) (ew : z.width ≡
 
 pub returns-then-height-eq0 : goal.returns-then-height-eq0
 returns-then-height-eq0 g c =
-    wholes.early_filed g.Pixel.Kind.ops g.P.Picture.model g.P.Picture.count g.P.Picture.sound c.args.picture.now c.args.height c.args.work.now c.args.out.now 15 NoRows
-    (wholes.end_zero g.Pixel.Kind.ops (g.P.Picture.model c.args.picture.now).shown c.args.height (length c.args.work.now) (length c.args.out.now) c.if-height-eq0.true) refl c.requires
+    wholes.early_filed g.P.Pixel.Kind.ops g.P.Picture.model g.P.Picture.count g.P.Picture.sound c.args.picture.now c.args.height c.args.work.now c.args.out.now 15 NoRows
+    (wholes.end_zero g.P.Pixel.Kind.ops (g.P.Picture.model c.args.picture.now).shown c.args.height (length c.args.work.now) (length c.args.out.now) c.if-height-eq0.true) refl c.requires
 
 pub returns-then-work-wide : goal.returns-then-work-wide
 returns-then-work-wide g c =
-    let o = g.Pixel.Kind.ops in
+    let o = g.P.Pixel.Kind.ops in
     let i = (g.P.Picture.model c.args.picture.now).shown in
     let z = c.size-size.result in
     let s = c.args.height in
@@ -42,7 +42,7 @@ returns-then-work-wide g c =
 
 pub put_strips-requires : goal.put_strips-requires
 put_strips-requires g c =
-    let o = g.Pixel.Kind.ops in
+    let o = g.P.Pixel.Kind.ops in
     let i = (g.P.Picture.model c.args.picture.now).shown in
     let z = c.size-size.result in
     let s = c.args.height in
@@ -63,7 +63,7 @@ put_strips-requires g c =
 
 pub returns-in-Ok : goal.returns-in-Ok
 returns-in-Ok g c =
-    let o = g.Pixel.Kind.ops in
+    let o = g.P.Pixel.Kind.ops in
     let i = (g.P.Picture.model c.args.picture.now).shown in
     let z = c.size-size.result in
     let s = c.args.height in
@@ -76,7 +76,7 @@ returns-in-Ok g c =
     c.put_strips.ensures.answers
     (λ d.
     let w = c.put_strips.ensures.writes d in
-    let long = wholes.raster_long o g.met.Pixel.Kind.deep i (sym d ∙ c.put_strips.ensures.answers) in (
+    let long = wholes.raster_long o g.met.P.Pixel.Kind.deep i (sym d ∙ c.put_strips.ensures.answers) in (
       wholes.file-written o i c.args.out.now c.begin.new.out c.put_strips.new.out c.in-Ok.begun.0 x.writes x.amounts w.0 (omega (arith, c.if-out-bytes.false, x.amounts)),
       w.1 ∙ ap (λ n. n + length (raster o i)) x.amounts ∙ sym (length-append (header_of o i) (raster o i)),
     ))
@@ -84,7 +84,7 @@ returns-in-Ok g c =
 
 pub returns-in-Err : goal.returns-in-Err
 returns-in-Err g c =
-    let o = g.Pixel.Kind.ops in
+    let o = g.P.Pixel.Kind.ops in
     let i = (g.P.Picture.model c.args.picture.now).shown in
     let z = c.size-size.result in
     let by = bytes_are o i z c.size-size.ensures.width c.size-size.ensures.height c.size-size.ensures.maxval c.header_bytes.result c.pixel_bytes.result c.header_bytes.ensures.value c.pixel_bytes.ensures.value in

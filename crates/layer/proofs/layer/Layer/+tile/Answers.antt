@@ -7,7 +7,7 @@ use Rattle.layer.proofs.layer.Layer.+tile.Goals as goal
 
 pub returns-else-block : goal.returns-else-block
 returns-else-block g t c =
-    let o = g.Pixel.Kind.ops in
+    let o = g.P.Pixel.Kind.ops in
     let model = g.P.Picture.model in
     let count = g.P.Picture.count in
     let k = c.block.ensures.kept in
@@ -22,7 +22,7 @@ returns-else-block g t c =
 
 pub returns-then-tile : goal.returns-then-tile
 returns-then-tile g t c =
-    let o = g.Pixel.Kind.ops in
+    let o = g.P.Pixel.Kind.ops in
     let model = g.P.Picture.model in
     let count = g.P.Picture.count in
     let p = c.args.part in
@@ -48,7 +48,7 @@ returns-then-tile g t c =
 
 pub returns-then-tile-2 : goal.returns-then-tile-2
 returns-then-tile-2 g t c =
-    let o = g.Pixel.Kind.ops in
+    let o = g.P.Pixel.Kind.ops in
     let model = g.P.Picture.model in
     let count = g.P.Picture.count in
     let p = c.args.part in

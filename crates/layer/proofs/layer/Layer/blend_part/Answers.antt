@@ -15,13 +15,13 @@ draw_part-requires g c =
       sound = c.requires.sound.0;
       inside = stood_inside b l.step l.size c.args.lens.at c.requires.sound.1 c.requires.inside;
       part = c.requires.part;
-      can = λ codes h s i j li lj. (can_read g.Pixel.Kind.ops b g.met.Pixel.Kind.decodes c.args.lens codes i j c.requires.few (omega (arith, p.across)) (omega (arith, p.down)) h s, c.requires.light, c.requires.scale);
+      can = λ codes h s i j li lj. (can_read g.P.Pixel.Kind.ops b g.met.P.Pixel.Kind.decodes c.args.lens codes i j c.requires.few (omega (arith, p.across)) (omega (arith, p.down)) h s, c.requires.light, c.requires.scale);
       room = c.requires.room;
     }
 
 pub returns : goal.returns
 returns g c =
-    let o = g.Pixel.Kind.ops in
+    let o = g.P.Pixel.Kind.ops in
     let l = c.args.self.now in
     let b = (g.P.Picture.model l.below).shown in
     let p = c.args.part in
@@ -32,7 +32,7 @@ returns g c =
       laid = λ z. let d = c.draw_part.ensures.laid z in
           laid_as c.args.rect p.left p.top p.width p.height _ _ _ _
           (λ u v k a q φ m.
-          coded-mixed o b g.met.Pixel.Kind.decodes n w c.args.scale c.args.offset d.0 (u - p.left) (v - p.top) φ d.1 m
+          coded-mixed o b g.met.P.Pixel.Kind.decodes n w c.args.scale c.args.offset d.0 (u - p.left) (v - p.top) φ d.1 m
           ∙ ap (λ x. Some (o.code (o.finish (summed o (lens_pixel o d.0 n (u - p.left) (v - p.top)) w (n.columns * n.rows)) c.args.scale c.args.offset x))) (sym c.requires.sound.1.maxval)
           ∙ ap (λ x. Some (o.code (o.finish (summed o (lens_pixel o d.0 n (u - p.left) (v - p.top)) w (n.columns * n.rows)) c.args.scale x l.size.maxval))) (sym (to_z-of_z fits))
           ∙ ap Some (sym q)) d.2;

@@ -4,11 +4,11 @@ use Rattle.layer.specs.Placing.{kept_follows, kept-none, kept_shows}
 use Rattle.layer.proofs.layer.Layer.exact.Goals as goal
 
 pub loop-j-init : goal.loop-j-init
-loop-j-init g c = (laid_no_rows _ _ _ _ _ _, refl, kept-none g.Pixel.Kind.ops g.P.Picture.model g.P.Picture.count _ _ refl refl refl refl, c.requires.sound)
+loop-j-init g c = (laid_no_rows _ _ _ _ _ _, refl, kept-none g.P.Pixel.Kind.ops g.P.Picture.model g.P.Picture.count _ _ refl refl refl refl, c.requires.sound)
 
 pub exact_row-requires : goal.exact_row-requires
 exact_row-requires g c =
-    let v = kept_shows g.Pixel.Kind.ops g.P.Picture.model g.P.Picture.count c.args.self.now c.loop-j.self c.loop-j.invariant.2 in
+    let v = kept_shows g.P.Pixel.Kind.ops g.P.Picture.model g.P.Picture.count c.args.self.now c.loop-j.self c.loop-j.invariant.2 in
     record {
       sound = c.loop-j.invariant.3;
       part = c.requires.part;
@@ -20,7 +20,7 @@ exact_row-requires g c =
 
 pub loop-j-preserved : goal.loop-j-preserved
 loop-j-preserved g c =
-    let o = g.Pixel.Kind.ops in
+    let o = g.P.Pixel.Kind.ops in
     let v = kept_shows o g.P.Picture.model g.P.Picture.count c.args.self.now c.loop-j.self c.loop-j.invariant.2 in
     let k = c.requires.part in (
       laid_above _ _ _ _ _ 1 _ _ _ _ (record { left = k.left; top = k.top; right = k.right; bottom = omega (arith, k.bottom) }) c.loop-j.invariant.0
@@ -34,7 +34,7 @@ pub returns-then-not-exact_row : goal.returns-then-not-exact_row
 returns-then-not-exact_row g c = record {
   laid = λ z. let n : ◌≡◌ {A = ℕ} 0 1 = cc in absurd (omega arith);
   rest = c.exact_row.ensures.rest ∙ c.loop-j.invariant.1;
-  kept = kept_follows g.Pixel.Kind.ops g.P.Picture.model g.P.Picture.count c.args.self.now c.loop-j.self c.exact_row.new.self c.loop-j.invariant.2 c.exact_row.ensures.kept;
+  kept = kept_follows g.P.Pixel.Kind.ops g.P.Picture.model g.P.Picture.count c.args.self.now c.loop-j.self c.exact_row.new.self c.loop-j.invariant.2 c.exact_row.ensures.kept;
   sound = c.exact_row.ensures.sound;
 }
 

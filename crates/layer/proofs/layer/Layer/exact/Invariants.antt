@@ -6,7 +6,7 @@ use Rattle.layer.proofs.layer.Layer.exact.Given as goal
 
 abbrev pub invariant-loop-j : goal.invariant-loop-j
 invariant-loop-j g l =
-    Laid l.whole l.part.left l.part.top l.part.width l.j (λ u v c. coded g.Pixel.Kind.ops ((model_of g.Pixel.Kind.ops g.P.Picture.model l.initial.self).shown.at u v) ≡ Some c) l.initial.buffer l.buffer
+    Laid l.whole l.part.left l.part.top l.part.width l.j (λ u v c. coded g.P.Pixel.Kind.ops ((model_of g.P.Pixel.Kind.ops g.P.Picture.model l.initial.self).shown.at u v) ≡ Some c) l.initial.buffer l.buffer
     × (drop (area l.whole) l.buffer ≡ drop (area l.whole) l.initial.buffer)
-    × Kept g.Pixel.Kind.ops g.P.Picture.model g.P.Picture.count l.initial.self l.self
-    × Sound g.Pixel.Kind.ops g.P.Picture.model g.P.Picture.sound l.self
+    × Kept g.P.Pixel.Kind.ops g.P.Picture.model g.P.Picture.count l.initial.self l.self
+    × Sound g.P.Pixel.Kind.ops g.P.Picture.model g.P.Picture.sound l.self

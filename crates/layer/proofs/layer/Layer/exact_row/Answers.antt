@@ -11,11 +11,11 @@ use Rattle.layer.proofs.Rowing.{located-coded}
 use Rattle.layer.proofs.layer.Layer.exact_row.Goals as goal
 
 pub loop-i-init : goal.loop-i-init
-loop-i-init g c = (laid_no_columns _ _ _ _ _ _, refl, kept-none g.Pixel.Kind.ops g.P.Picture.model g.P.Picture.count _ _ refl refl refl refl, c.requires.sound)
+loop-i-init g c = (laid_no_columns _ _ _ _ _ _, refl, kept-none g.P.Pixel.Kind.ops g.P.Picture.model g.P.Picture.count _ _ refl refl refl refl, c.requires.sound)
 
 pub place-requires : goal.place-requires
 place-requires g c =
-    let v = kept_shows g.Pixel.Kind.ops g.P.Picture.model g.P.Picture.count c.args.self.now c.loop-i.self c.loop-i.invariant.2 in
+    let v = kept_shows g.P.Pixel.Kind.ops g.P.Picture.model g.P.Picture.count c.args.self.now c.loop-i.self c.loop-i.invariant.2 in
     let k = c.requires.part in
     record {
       sound = c.loop-i.invariant.3;
@@ -33,7 +33,7 @@ bounds-buffer-above g c =
 
 pub loop-i-preserved : goal.loop-i-preserved
 loop-i-preserved g c =
-    let o = g.Pixel.Kind.ops in
+    let o = g.P.Pixel.Kind.ops in
     let model = g.P.Picture.model in
     let count = g.P.Picture.count in
     let r = c.args.whole in
@@ -58,7 +58,7 @@ pub returns-in-Err : goal.returns-in-Err
 returns-in-Err g c = record {
   laid = λ z. let n : ◌≡◌ {A = ℕ} 0 1 = cc in absurd (omega arith);
   rest = c.loop-i.invariant.1;
-  kept = kept_follows g.Pixel.Kind.ops g.P.Picture.model g.P.Picture.count c.args.self.now c.loop-i.self c.place.new.self c.loop-i.invariant.2 c.place.ensures.kept;
+  kept = kept_follows g.P.Pixel.Kind.ops g.P.Picture.model g.P.Picture.count c.args.self.now c.loop-i.self c.place.new.self c.loop-i.invariant.2 c.place.ensures.kept;
   sound = c.place.ensures.sound;
 }
 

@@ -40,7 +40,7 @@ blend-requires-in-Masked g c =
 
 pub returns-in-Black : goal.returns-in-Black
 returns-in-Black g c =
-    let o = g.Pixel.Kind.ops in
+    let o = g.P.Pixel.Kind.ops in
     let l = c.args.self.now in
     let b = (g.P.Picture.model l.below).shown in
     let p = c.rect.result in
@@ -53,7 +53,7 @@ returns-in-Black g c =
 
 pub returns-in-White : goal.returns-in-White
 returns-in-White g c =
-    let o = g.Pixel.Kind.ops in
+    let o = g.P.Pixel.Kind.ops in
     let l = c.args.self.now in
     let b = (g.P.Picture.model l.below).shown in
     let p = c.rect.result in
@@ -66,7 +66,7 @@ returns-in-White g c =
 
 pub returns-in-Copy : goal.returns-in-Copy
 returns-in-Copy g c =
-    let o = g.Pixel.Kind.ops in
+    let o = g.P.Pixel.Kind.ops in
     let l = c.args.self.now in
     let b = (g.P.Picture.model l.below).shown in
     let p = c.rect.result in
@@ -79,7 +79,7 @@ returns-in-Copy g c =
 
 pub returns-in-Mean : goal.returns-in-Mean
 returns-in-Mean g c =
-    let o = g.Pixel.Kind.ops in
+    let o = g.P.Pixel.Kind.ops in
     let l = c.args.self.now in
     let b = (g.P.Picture.model l.below).shown in
     let p = c.rect.result in
@@ -92,7 +92,7 @@ returns-in-Mean g c =
 
 pub returns-in-Masked : goal.returns-in-Masked
 returns-in-Masked g c =
-    let o = g.Pixel.Kind.ops in
+    let o = g.P.Pixel.Kind.ops in
     let l = c.args.self.now in
     let b = (g.P.Picture.model l.below).shown in
     let p = c.rect.result in

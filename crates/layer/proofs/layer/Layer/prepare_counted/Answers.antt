@@ -12,7 +12,7 @@ use Rattle.layer.proofs.layer.Layer.prepare_counted.Goals.{then-rect-wide-via-th
 
 pub returns-then-rect-wide : goal.returns-then-rect-wide
 returns-then-rect-wide g c =
-    let o = g.Pixel.Kind.ops in
+    let o = g.P.Pixel.Kind.ops in
     let model = g.P.Picture.model in
     let l = c.args.self.now in
     let b = (model l.below).shown in
@@ -34,7 +34,7 @@ returns-then-rect-wide g c =
 
 pub returns-then-area-buffer : goal.returns-then-area-buffer
 returns-then-area-buffer g c =
-    let o = g.Pixel.Kind.ops in
+    let o = g.P.Pixel.Kind.ops in
     let model = g.P.Picture.model in
     let l = c.args.self.now in
     let b = (model l.below).shown in
@@ -51,7 +51,7 @@ returns-then-area-buffer g c =
 
 pub returns-then-tile : goal.returns-then-tile
 returns-then-tile g c =
-    let o = g.Pixel.Kind.ops in
+    let o = g.P.Pixel.Kind.ops in
     let model = g.P.Picture.model in
     let count = g.P.Picture.count in
     let l = c.args.self.now in
@@ -78,7 +78,7 @@ returns-then-tile g c =
 
 pub returns : goal.returns
 returns g c =
-    let o = g.Pixel.Kind.ops in
+    let o = g.P.Pixel.Kind.ops in
     let model = g.P.Picture.model in
     let count = g.P.Picture.count in
     let l = c.args.self.now in

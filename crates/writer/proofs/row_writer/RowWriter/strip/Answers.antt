@@ -15,7 +15,7 @@ use Rattle.writer.proofs.row_writer.RowWriter.strip.Goals as goal
 
 pub returns-then-not-serves : goal.returns-then-not-serves
 returns-then-not-serves g c =
-    let o = g.Pixel.Kind.ops in
+    let o = g.P.Pixel.Kind.ops in
     let i = (g.P.Picture.model c.args.picture.now).shown in
     let w = c.args.self.now in
     let e = nexts.end_other o i w c.args.height (length c.args.work.now) (length c.args.out.now) (sym c.if-not-serves.ensures) in
@@ -28,7 +28,7 @@ returns-then-not-serves g c =
 
 pub returns-then-rows-eq0 : goal.returns-then-rows-eq0
 returns-then-rows-eq0 g c =
-    let o = g.Pixel.Kind.ops in
+    let o = g.P.Pixel.Kind.ops in
     let i = (g.P.Picture.model c.args.picture.now).shown in
     let w = c.args.self.now in
     let e = nexts.end_none o i w c.args.height (length c.args.work.now) (length c.args.out.now) (sym c.if-not-serves.ensures) (sym c.min-rows.ensures ∙ c.if-rows-eq0.true) in
@@ -48,7 +48,7 @@ bytes_are w s r b n e f = ap (λ k. w.size.width * k * b) e ∙ ap (λ k. places
 
 pub returns-then-work-places : goal.returns-then-work-places
 returns-then-work-places g c =
-    let o = g.Pixel.Kind.ops in
+    let o = g.P.Pixel.Kind.ops in
     let i = (g.P.Picture.model c.args.picture.now).shown in
     let w = c.args.self.now in
     let s = c.args.height in
@@ -66,7 +66,7 @@ returns-then-work-places g c =
 
 pub returns-in-Err : goal.returns-in-Err
 returns-in-Err g c =
-    let o = g.Pixel.Kind.ops in
+    let o = g.P.Pixel.Kind.ops in
     let p = c.args.picture.now in
     let i = (g.P.Picture.model p).shown in
     let w = c.args.self.now in
@@ -91,7 +91,7 @@ returns-in-Err g c =
 
 pub put_codes-end-requires : goal.put_codes-end-requires
 put_codes-end-requires g c =
-    let o = g.Pixel.Kind.ops in
+    let o = g.P.Pixel.Kind.ops in
     let p = c.args.picture.now in
     let i = (g.P.Picture.model p).shown in
     let w = c.args.self.now in
@@ -114,13 +114,13 @@ put_codes-end-requires g c =
           let E : ℕ → Type 0 = λ m. Known o m (o.decode (get_or (put None (λ j. code_at o (ahead i w j)) (places_of w s) work) k 0)) in
           subst D (sym (get_or-take n c.prepare.new.buffer k 0 (omega arith) ∙ ap (λ t. get_or t k 0) are))
           (subst E (sym (nexts.as_bright o i w fit))
-          (codes.known o g.met.Pixel.Kind.decodes i.maxval (ahead i w) (places_of w s) work clean
+          (codes.known o g.met.P.Pixel.Kind.decodes i.maxval (ahead i w) (places_of w s) work clean
           (λ j l. codes.place_dim o i (g.met.P.Picture.bounded p c.requires) (w.size.width * w.next + j) (omega (arith, nexts.ahead_in o i w fit s))) k (omega arith)));
     }
 
 pub returns : goal.returns
 returns g c =
-    let o = g.Pixel.Kind.ops in
+    let o = g.P.Pixel.Kind.ops in
     let p = c.args.picture.now in
     let i = (g.P.Picture.model p).shown in
     let w = c.args.self.now in
@@ -140,8 +140,8 @@ returns g c =
     let read : flat_map (code_bytes o m) (take (w.size.width * c.min-rows.result) c.prepare.new.buffer) ≡ strip_bytes o i w s =
     ap (λ n. flat_map (code_bytes o m) (take n c.prepare.new.buffer)) pl ∙ ap (λ t. flat_map (code_bytes o m) (take (places_of w s) t)) are
     ∙ ap (λ k. flat_map (code_bytes o k) (take (places_of w s) (put None (λ j. code_at o (ahead i w j)) (places_of w s) work))) (nexts.as_bright o i w fit)
-    ∙ codes.codes_reading o g.met.Pixel.Kind.decodes i (w.size.width * w.next) (places_of w s) work clean in
-    let long = codes.reading_long o g.met.Pixel.Kind.deep i (w.size.width * w.next) (places_of w s) clean ∙ ap (λ k. places_of w s * pixel_width o k) (sym (nexts.as_bright o i w fit)) in
+    ∙ codes.codes_reading o g.met.P.Pixel.Kind.decodes i (w.size.width * w.next) (places_of w s) work clean in
+    let long = codes.reading_long o g.met.P.Pixel.Kind.deep i (w.size.width * w.next) (places_of w s) clean ∙ ap (λ k. places_of w s * pixel_width o k) (sym (nexts.as_bright o i w fit)) in
     let h = ends.done_wrote o g.P.Picture.model g.P.Picture.count g.P.Picture.sound (ahead i w) (places_of w s) (strip_bytes o i w s) p work out r c.prepare.new.self c.prepare.new.buffer part room c.in-Ok.ensures
     (strip_end o i w s (length work) (length out)) (w.size.width * c.min-rows.result * c.pixel_bytes.result) c.put_codes-end.new.out e (by ∙ sym long)
     (c.put_codes-end.ensures.out ∙ ap (pasted out 0) read ∙ pasted_front out (strip_bytes o i w s)) in
