@@ -2,7 +2,7 @@ use Rattle.std.proofs.Common.{Some, sym, refl, ap, ◌∙◌, inl, inr, to_z-of_
 use Rattle.layer.specs.Spreads.{beside}
 use Rattle.layer.proofs.Embedding.{Shows, is_copy, is_edge, spreads_moved, spread_some}
 use Rattle.layer.proofs.aims.placed.Goals as goal
-use Rattle.layer.proofs.aims.placed.Goals.{then-is-beside+in-Copy, else-is-beside+else-is-beside-2}
+use Rattle.layer.proofs.aims.placed.Goals.{then-is_beside+in-Copy, else-is_beside+else-is_beside-2}
 
 pub returns-in-Some-Some : goal.returns-in-Some-Some
 returns-in-Some-Some c =
@@ -13,8 +13,8 @@ returns-in-Some-Some c =
     let fy : SFits w32 c.args.y = search rules in
     let sh : Shows c.args.x c.args.y W H p (Some c.in-Some-Some.a) (Some c.in-Some-Some.b) c.args.ground =
     elim c.if-is_beside.branch [
-      | then-is-beside+in-Copy w ↦ inl w.in-Copy.is
-      | else-is-beside+else-is-beside-2 w ↦ inr (ap beside (sym c.in-Some-Some.is-0) ∙ sym c.is_beside.ensures ∙ w.if-is_beside.false, ap beside (sym c.in-Some-Some.is-1) ∙ sym w.is_beside-else-is_beside.ensures ∙ w.if-is_beside-2.false)
+      | then-is_beside+in-Copy w ↦ inl w.in-Copy.is
+      | else-is_beside+else-is_beside-2 w ↦ inr (ap beside (sym c.in-Some-Some.is-0) ∙ sym c.is_beside.ensures ∙ w.if-is_beside.false, ap beside (sym c.in-Some-Some.is-1) ∙ sym w.is_beside-else-is_beside.ensures ∙ w.if-is_beside-2.false)
     ] in
     is_copy c.args.x c.args.y W H p c.in-Some-Some.a c.in-Some-Some.b _ c.args.ground sh
     (spread_some _ c.in-Some-Some.a p.left c.args.x p.width W c.in-Some-Some.is-0 (spreads_moved _ p.left _ c.args.x p.width W (to_z-of_z fx) c.spread-across.ensures))
@@ -30,8 +30,8 @@ returns-in-None-default c =
     let fy : SFits w32 c.args.y = search rules in
     let sh : Shows c.args.x c.args.y W H p c.spread-across.result c.spread-down.result c.args.ground =
     elim c.if-is_beside.branch [
-      | then-is-beside+in-Copy w ↦ inl w.in-Copy.is
-      | else-is-beside+else-is-beside-2 w ↦ inr (sym c.is_beside.ensures ∙ w.if-is_beside.false, sym w.is_beside-else-is_beside.ensures ∙ w.if-is_beside-2.false)
+      | then-is_beside+in-Copy w ↦ inl w.in-Copy.is
+      | else-is_beside+else-is_beside-2 w ↦ inr (sym c.is_beside.ensures ∙ w.if-is_beside.false, sym w.is_beside-else-is_beside.ensures ∙ w.if-is_beside-2.false)
     ] in
     is_edge c.args.x c.args.y W H p c.spread-across.result c.spread-down.result c.args.ground sh
     (spreads_moved _ p.left _ c.args.x p.width W (to_z-of_z fx) c.spread-across.ensures)
@@ -46,8 +46,8 @@ returns-in_default-None c =
     let fy : SFits w32 c.args.y = search rules in
     let sh : Shows c.args.x c.args.y W H p c.spread-across.result c.spread-down.result c.args.ground =
     elim c.if-is_beside.branch [
-      | then-is-beside+in-Copy w ↦ inl w.in-Copy.is
-      | else-is-beside+else-is-beside-2 w ↦ inr (sym c.is_beside.ensures ∙ w.if-is_beside.false, sym w.is_beside-else-is_beside.ensures ∙ w.if-is_beside-2.false)
+      | then-is_beside+in-Copy w ↦ inl w.in-Copy.is
+      | else-is_beside+else-is_beside-2 w ↦ inr (sym c.is_beside.ensures ∙ w.if-is_beside.false, sym w.is_beside-else-is_beside.ensures ∙ w.if-is_beside-2.false)
     ] in
     is_edge c.args.x c.args.y W H p c.spread-across.result c.spread-down.result c.args.ground sh
     (spreads_moved _ p.left _ c.args.x p.width W (to_z-of_z fx) c.spread-across.ensures)

@@ -10,7 +10,7 @@ use Rattle.source.proofs.file.FileSource.open.Goals as goal
 pub invariant_of-raster : goal.invariant_of-raster
 invariant_of-raster g c =
     let a = ((c.read_header.ensures.grammar c.in-Ok.field-0).0 c.in-Ok.is).allowed in
-    (a.0.0, (a.1.0, (a.2.0, (a.0.1, (a.1.1, (a.2.1, tt))))))
+    record { wide = a.0.0; high = a.1.0; bright = a.2.0; across = a.0.1; down = a.1.1; fits = a.2.1 }
 
 pub invariant_of-raster-in-Ok : goal.invariant_of-raster-in-Ok
 invariant_of-raster-in-Ok g c =
