@@ -5,8 +5,8 @@ pub returns : goal.returns
 returns g c = record {
   first = c.prepare-one.ensures.prepared;
   second = c.prepare-two.ensures.prepared;
-  answered-first = c.prepare-one.ensures.answered;
-  answered-second = c.prepare-two.ensures.answered;
+  answered_first = c.prepare-one.ensures.answered;
+  answered_second = c.prepare-two.ensures.answered;
   alike =
       agree g.P.Pixel.Kind.ops
       g.P.Picture.model g.P.Picture.count g.P.Picture.sound g.P.Picture.bare
