@@ -2,7 +2,7 @@
 use Rattle.std.proofs.Common.{◌≡◌, ℕ, ◌+◌, ◌-◌, ◌*◌, ◌<◌, ◌≤◌, Bool, true, false, cond, not, ◌&&◌, ◌⊎◌, ℤ, pos, ◌-ℤ◌, Some, None, Option, sym, refl, ap, ◌∙◌, subst, inl, inr, arith}
 use Rattle.picture.specs.declared.rect.Rect.{Rect}
 use Rattle.picture.specs.declared.step.Ground as declared
-use Rattle.picture.specs.declared.step.Ground.TheVariants as ground
+use Rattle.picture.specs.declared.step.Ground.TheVariants as grounds
 use Rattle.picture.specs.Steps.{Formula, copied, among, nearest, embedded}
 use Rattle.layer.specs.declared.spread.Spread.{Spread}
 use Rattle.layer.specs.declared.aim.Carry.{Carry}
@@ -47,9 +47,9 @@ module _ (x y : ℤ) (W H : ℕ) (p : Rect) where
 
   -- where the ground copies, or the part does not lie beside, its places show the nearest one
   abbrev pub Shows : Option Spread → Option Spread → declared.Ground → Type 0
-  Shows a b g = (g ≡ ground.Copy) ⊎ ((beside a ≡ false) × (beside b ≡ false))
+  Shows a b g = (g ≡ grounds.Copy) ⊎ ((beside a ≡ false) × (beside b ≡ false))
 
-  copy_near : (g : declared.Ground) (u v : ℕ) → g ≡ ground.Copy → placing g u v ≡ near W H (pos u -ℤ x) (pos v -ℤ y)
+  copy_near : (g : declared.Ground) (u v : ℕ) → g ≡ grounds.Copy → placing g u v ≡ near W H (pos u -ℤ x) (pos v -ℤ y)
   copy_near g u v e = ap (λ q. placing q u v) e ∙ shows_both (among (pos u -ℤ x) W) (among (pos v -ℤ y) H) (near W H (pos u -ℤ x) (pos v -ℤ y))
 
   inside-near : (g : declared.Ground) (u v : ℕ) → among (pos u -ℤ x) W ≡ true → among (pos v -ℤ y) H ≡ true → placing g u v ≡ near W H (pos u -ℤ x) (pos v -ℤ y)

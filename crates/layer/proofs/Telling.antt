@@ -4,7 +4,7 @@ use Rattle.std.proofs.lemmas.Nat.{div-add-mod', div-mul-add, le-div, mod_below, 
 use Rattle.pixel.specs.Ops.{Ops}
 use Rattle.picture.specs.declared.fault.Fault.{Fault}
 use Rattle.picture.specs.declared.step.Ground as declared
-use Rattle.picture.specs.declared.step.Ground.TheVariants as ground
+use Rattle.picture.specs.declared.step.Ground.TheVariants as grounds
 use Rattle.picture.specs.declared.step.Axis.TheVariants.{Horizontal, Vertical}
 use Rattle.picture.specs.declared.step.Turn.TheVariants.{D90, D270}
 use Rattle.picture.specs.declared.step.Step.TheVariants.{Same, Crop, Embed, Flip, Rot, Shrink, Conv}
@@ -97,9 +97,9 @@ module _ {K S : Type 0} (o : Ops K S) where
       → taken o b.maxval b.at (cond c (copied (nearest x b.width) (nearest y b.height)) (grounded g b.width b.height x y)) ≡ hole e
       → FirstHole b (cond c (copied (nearest x b.width) (nearest y b.height)) (grounded g b.width b.height x y)) e
   embedded_first b g x y e true h = copied_first b _ _ e h
-  embedded_first b ground.Black x y e false h = let z : ◌≡◌ {A = ℕ} 0 1 = cc in absurd (omega arith)
-  embedded_first b ground.White x y e false h = let z : ◌≡◌ {A = ℕ} 0 1 = cc in absurd (omega arith)
-  embedded_first b ground.Copy x y e false h = copied_first b _ _ e h
+  embedded_first b grounds.Black x y e false h = let z : ◌≡◌ {A = ℕ} 0 1 = cc in absurd (omega arith)
+  embedded_first b grounds.White x y e false h = let z : ◌≡◌ {A = ℕ} 0 1 = cc in absurd (omega arith)
+  embedded_first b grounds.Copy x y e false h = copied_first b _ _ e h
 
   pub first_hole_told : FirstHoleTold o
   first_hole_told Same b u v e a h = copied_first b _ _ e h

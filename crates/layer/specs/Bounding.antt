@@ -5,7 +5,7 @@ use Rattle.std.proofs.lemmas.Nat.{div_below, le-div, mod_below}
 use Rattle.pixel.specs.Ops.{Ops, Under}
 use Rattle.picture.specs.declared.fault.Fault.{Fault}
 use Rattle.picture.specs.declared.step.Ground as declared
-use Rattle.picture.specs.declared.step.Ground.TheVariants as ground
+use Rattle.picture.specs.declared.step.Ground.TheVariants as grounds
 use Rattle.picture.specs.declared.step.Axis.TheVariants.{Horizontal, Vertical}
 use Rattle.picture.specs.declared.step.Turn.TheVariants.{D90, D270}
 use Rattle.picture.specs.declared.step.Step.{Step}
@@ -27,9 +27,9 @@ In W H x y = (x < W) × (y < H)
 
 embedded-inside : (g : declared.Ground) (W H : ℕ) (x y : ℤ) → 1 ≤ W → 1 ≤ H → (b : Bool) → needed (cond b (copied (nearest x W) (nearest y H)) (grounded g W H x y)) (In W H)
 embedded-inside g W H x y w h true = (nearest-inside x W w, nearest-inside y H h)
-embedded-inside ground.Black W H x y w h false = tt
-embedded-inside ground.White W H x y w h false = tt
-embedded-inside ground.Copy W H x y w h false = (nearest-inside x W w, nearest-inside y H h)
+embedded-inside grounds.Black W H x y w h false = tt
+embedded-inside grounds.White W H x y w h false = tt
+embedded-inside grounds.Copy W H x y w h false = (nearest-inside x W w, nearest-inside y H h)
 
 one_more : (u w : ℕ) → u < w → u + 1 ≤ w
 one_more u w h = omega arith

@@ -159,14 +159,14 @@ fn is_beside(spread: Option<Spread>) -> bool
 }
 
 /// The part lies over the picture that an embedding holds, beside it, or across its edge.
-fn placed(x: i32, y: i32, ground: Ground, size: Size, part: Rect) -> Aim
+fn placed(x: i32, y: i32, fill: Ground, size: Size, part: Rect) -> Aim
     requires limits { (unsigned_abs x ≤ largest) × (unsigned_abs y ≤ largest) }
-    ensures { Aims result (λ u v. embedded ground size.width size.height (pos u -ℤ x) (pos v -ℤ y)) size.width size.height part }
+    ensures { Aims result (λ u v. embedded fill size.width size.height (pos u -ℤ x) (pos v -ℤ y)) size.width size.height part }
 {
     let across = spread(part.left, x, part.width, size.width);
     let down = spread(part.top, y, part.height, size.height);
     if is_beside(across) || is_beside(down) {
-        match ground {
+        match fill {
             Ground::Black => return Aim::Black,
             Ground::White => return Aim::White,
             Ground::Copy => {}

@@ -43,10 +43,10 @@ pub(crate) fn of_mask(mask: Mask) -> Stencil
 }
 
 /// What an embedding shows beside the picture; black, if it does not say.
-pub(crate) fn or_black(ground: Option<Ground>) -> Ground
-    ensures { result ≡ ground_of ground }
+pub(crate) fn or_black(named: Option<Ground>) -> Ground
+    ensures { result ≡ ground_of named }
 {
-    match ground {
+    match named {
         Some(ground) => ground,
         None => Ground::Black,
     }

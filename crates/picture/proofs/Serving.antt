@@ -1,5 +1,5 @@
 -- A rectangle served row by row.
-use Rattle.std.proofs.Common.{◌≡◌, ℕ, zero, suc, ◌+◌, ◌-◌, ◌*◌, ◌/◌, ◌%◌, ◌<◌, ◌≤◌, true, false, cond, ◌&&◌, leb, List, ◌++◌, map, length, get_or, take, drop, replicate, Some, None, Ok, Err, Option, Result, sym, refl, ap, ◌∙◌, subst, ⊎_elim, mul-le-mul_right, mul_comm, add-mul, one-mul, arith}
+use Rattle.std.proofs.Common.{◌≡◌, ℕ, ◌+◌, ◌-◌, ◌*◌, ◌/◌, ◌<◌, ◌≤◌, true, ◌&&◌, leb, List, ◌++◌, map, length, get_or, take, drop, replicate, Some, sym, ap, ◌∙◌, ⊎_elim, mul-le-mul_right, mul_comm, add-mul, one-mul, arith}
 use borrow.Rule.Slice.PartMut.{put_mid, post_of}
 use Rattle.std.proofs.lemmas.List.{get_or_append_left, get_or-append_right, get_or-take, length-take-le, take-append-drop}
 use Rattle.std.proofs.lemmas.Bool.{and_from, le-leb, cond-true, cases_lt}
@@ -8,9 +8,7 @@ use Rattle.std.proofs.lemmas.List.FromFn.{fill_by_all}
 use Rattle.std.specs.List.{range_with_len}
 use Rattle.pixel.specs.Ops.{Ops}
 use Rattle.picture.specs.declared.fault.Fault.{Fault}
-use Rattle.picture.specs.declared.fault.Refusal.TheVariants.{Hole}
 use Rattle.picture.specs.declared.rect.Rect.{Rect}
-use Rattle.picture.specs.Refusals.{done, refused, outcome, fault_values}
 use Rattle.picture.specs.Places.{Place, pixel, hole, first_fault}
 use Rattle.picture.specs.Images.{Image}
 use Rattle.picture.specs.Prepare.{area, inside, nth, lined, holed, answer, put, code_at, coded, Shown, filled}

@@ -2,10 +2,8 @@
 use Rattle.std.specs.Prelude.{ℕ, ◌+◌, ◌-◌, ◌*◌, ◌/◌, ◌%◌, min, Bool, true, false, cond, ◌&&◌, List, [], ◌∷◌, ℤ, pos, negsuc, ◌-ℤ◌, Some, None, Option, nat_le, nat_lt, slice_index_or, unsigned_abs}
 use Rattle.pixel.specs.Scaling.{limited}
 use Rattle.picture.specs.declared.step.Ground.{Ground}
-use Rattle.picture.specs.declared.step.Ground.TheVariants as ground
-use Rattle.picture.specs.declared.step.Axis.{Axis}
+use Rattle.picture.specs.declared.step.Ground.TheVariants as grounds
 use Rattle.picture.specs.declared.step.Axis.TheVariants.{Horizontal, Vertical}
-use Rattle.picture.specs.declared.step.Turn.{Turn}
 use Rattle.picture.specs.declared.step.Turn.TheVariants.{D90, D270}
 use Rattle.picture.specs.declared.step.Mask.{Mask}
 use Rattle.picture.specs.declared.step.Mask.TheVariants.{Blur, Sharpen, Relief}
@@ -62,7 +60,7 @@ kernel Relief = record {
 
 -- an embedding that names no ground has this one
 abbrev pub ground_of : Option Ground → Ground
-ground_of None = ground.Black
+ground_of None = grounds.Black
 ground_of (Some g) = g
 
 -- z is one of the n columns or rows
@@ -75,9 +73,9 @@ abbrev pub nearest : ℤ → ℕ → ℕ
 nearest z n = limited z (n - 1)
 
 abbrev pub grounded : Ground → ℕ → ℕ → ℤ → ℤ → Formula
-grounded ground.Black W H x y = black
-grounded ground.White W H x y = white
-grounded ground.Copy W H x y = copied (nearest x W) (nearest y H)
+grounded grounds.Black W H x y = black
+grounded grounds.White W H x y = white
+grounded grounds.Copy W H x y = copied (nearest x W) (nearest y H)
 
 -- what an embedding shows of column x and row y below, which may lie outside
 abbrev pub embedded : Ground → ℕ → ℕ → ℤ → ℤ → Formula

@@ -1,5 +1,5 @@
 -- The two kinds of pixel.
-use Rattle.std.specs.Prelude.{ℕ, ◌+◌, ◌*◌, ◌/◌, ◌%◌, ◌^◌, ◌≤◌, min, cond, List, [], ◌∷◌, ℤ, pos, ◌+ℤ◌, ◌*ℤ◌, Some, None, Option, nat_lt, slice_index}
+use Rattle.std.specs.Prelude.{ℕ, ◌+◌, ◌*◌, ◌/◌, ◌%◌, ◌^◌, min, cond, [], ◌∷◌, ℤ, pos, ◌+ℤ◌, ◌*ℤ◌, Some, None, nat_lt, slice_index}
 use Rattle.std.proofs.Math.Nat.{min-le_right}
 use Rattle.pixel.specs.declared.pixels.Grey.{Grey}
 use Rattle.pixel.specs.declared.pixels.Colour.{Colour}

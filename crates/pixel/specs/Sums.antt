@@ -1,6 +1,6 @@
 -- Weighted sums stay small, and their order does not matter.
 use Rattle.std.specs.Prelude.{◌≡◌, ℕ, zero, suc, ◌+◌, ◌*◌, ◌/◌, ◌^◌, ◌<◌, ◌≤◌, min, ℤ, pos, negsuc, ◌+ℤ◌, ◌*ℤ◌, neg_ℤ, FitsSigned, unsigned_abs, refl}
-use Rattle.std.proofs.Common.{sym, ◌∙◌, ap, mul-le-mul, add-mul, div-le_self, arith, to_z, of_z, to_z-of_z}
+use Rattle.std.proofs.Common.{sym, ◌∙◌, ap, mul-le-mul, div-le_self, arith, to_z, of_z, to_z-of_z}
 use Rattle.std.proofs.lemmas.Int.{ints}
 use Rattle.std.proofs.Math.IntN.{pos-*ℤ-pos, negsuc-*ℤ-pos, +ℤ_assoc, +ℤ_comm}
 use Rattle.std.proofs.lemmas.Bool.Decides.{nat_tests}

@@ -28,11 +28,11 @@ impl Kind for Colour {
 
     ghost recodes = { colour_recodes };
 
-    ghost coded = { first_of (Prim.search rules, Prim.grind (arith, Self.row.coded.inj)) };
+    ghost coded = { Prim.search rules };
 
-    ghost few = { first_of (Prim.search rules, Prim.grind (arith, Self.row.coded.inj)) };
+    ghost few = { Prim.search rules };
 
-    ghost deep = { first_of (Prim.search rules, Prim.grind (arith, Self.row.coded.inj)) };
+    ghost deep = { Prim.search rules };
 
     ghost sampled = { colour_sampled };
 
@@ -44,7 +44,7 @@ impl Kind for Colour {
         (swapped s.green (a *ℤ pos p.green) (b *ℤ pos q.green))
         (swapped s.blue (a *ℤ pos p.blue) (b *ℤ pos q.blue)) };
 
-    ghost begun = { first_of (Prim.search rules, Prim.grind (arith, Self.row.coded.inj)) };
+    ghost begun = { Prim.search rules };
 
     ghost grown = { λ s p w n h l. (
       sum_grown s.red w p.red n h.0 l p.reds,
@@ -52,7 +52,7 @@ impl Kind for Colour {
       sum_grown s.blue w p.blue n h.2 l p.blues,
     ) };
 
-    ghost blacks = { first_of (Prim.search rules, Prim.grind (arith, Self.row.coded.inj)) };
+    ghost blacks = { Prim.search rules };
 
     ghost whites = { λ m. under_three m _ _ _ (omega arith) (omega arith) (omega arith) };
 

@@ -20,11 +20,11 @@ impl Kind for Grey {
 
     ghost recodes = { grey_recodes };
 
-    ghost coded = { first_of (Prim.search rules, Prim.grind (arith, Self.row.coded.inj)) };
+    ghost coded = { Prim.search rules };
 
-    ghost few = { first_of (Prim.search rules, Prim.grind (arith, Self.row.coded.inj)) };
+    ghost few = { Prim.search rules };
 
-    ghost deep = { first_of (Prim.search rules, Prim.grind (arith, Self.row.coded.inj)) };
+    ghost deep = { Prim.search rules };
 
     ghost sampled = { grey_sampled };
 
@@ -32,11 +32,11 @@ impl Kind for Grey {
 
     ghost commutes = { λ s p q a b. swapped s (a *ℤ pos p.value) (b *ℤ pos q.value) };
 
-    ghost begun = { first_of (Prim.search rules, Prim.grind (arith, Self.row.coded.inj)) };
+    ghost begun = { Prim.search rules };
 
     ghost grown = { λ s p w n h l. sum_grown s w p.value n h l p.fits };
 
-    ghost blacks = { first_of (Prim.search rules, Prim.grind (arith, Self.row.coded.inj)) };
+    ghost blacks = { Prim.search rules };
 
     ghost whites = { λ m. under_one m _ (omega arith) };
 

@@ -1,4 +1,4 @@
-use Rattle.std.proofs.Common.{◌≡◌, ℕ, ◌+◌, ◌≤◌, ◌++◌, length, drop, replicate, sym, refl, ap, ◌∙◌, subst, arith, rules}
+use Rattle.std.proofs.Common.{◌+◌, ◌≤◌, ◌++◌, length, drop, replicate, sym, refl, ap, ◌∙◌, arith}
 use Rattle.picture.specs.Places.{first_fault}
 use Rattle.picture.specs.Prepare.{area, holed, nth}
 use Rattle.picture.proofs.Faults.{fault_of_err, none_of_ok}

@@ -1,4 +1,3 @@
-use Rattle.std.proofs.Common.{ap, ◌∙◌, arith, to_z-of_z}
 use Rattle.pixel.specs.Sampling.{grey_same}
 use Rattle.pixel.specs.Sums.{shown}
 use Rattle.pixel.proofs.grey.GreyKind.finish.Goals as goal
