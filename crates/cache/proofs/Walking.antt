@@ -1,5 +1,5 @@
 -- The walk over the tiles that a rectangle touches.
-use Rattle.std.proofs.Common.{◌≡◌, ℕ, zero, suc, ◌+◌, ◌-◌, ◌*◌, ◌/◌, ◌%◌, ◌<◌, ◌≤◌, Bool, true, false, ◌⊎◌, List, get_or, Some, sym, ap, ◌∙◌, subst, ⊎_elim, add-zero, add-suc, mul-le-mul_right, mul_comm, mul-one, mul-add, div-mul-le_self, add-one, arith}
+use Rattle.std.proofs.Common.{◌≡◌, ℕ, zero, suc, ◌+◌, ◌-◌, ◌*◌, ◌/◌, ◌%◌, ◌<◌, ◌≤◌, Bool, true, false, List, get_or, Some, sym, ap, ◌∙◌, subst, ⊎_elim, add-zero, add-suc, mul-le-mul_right, mul_comm, mul-one, mul-add, div-mul-le_self, add-one, arith}
 use native.Mathlib.Nat.{lt-mul-div-succ}
 use Rattle.std.proofs.lemmas.Nat.{div-mul-add, mod-mul-add, le-div, mod_below, div_below}
 use Rattle.std.proofs.lemmas.Bool.{cases_eq}

@@ -6,7 +6,6 @@ use Rattle.store.specs.Cells.{Cell, capped}
 use Rattle.store.specs.Stores.{in_bytes}
 use Rattle.picture.specs.declared.fault.Fault.{Fault}
 use Rattle.picture.specs.Places.{or_else}
-use Rattle.source.specs.declared.header.Header.{Header}
 use Rattle.source.specs.declared.raster.Raster.{Raster}
 use Rattle.source.specs.Front.{available}
 use Rattle.source.specs.Header.{header_of}
@@ -15,7 +14,6 @@ use Rattle.source.specs.Files.{raster_image}
 use Rattle.source.specs.Opening.{headed}
 use Rattle.survey.specs.declared.findings.Survey.{Survey}
 use Rattle.survey.specs.Surveys.{surveyed}
-use Rattle.inspection.specs.declared.report.Details.{Details}
 use Rattle.inspection.specs.declared.report.Finding.{Finding}
 use Rattle.inspection.specs.declared.report.Finding.TheVariants.{Refused, Picture}
 use Rattle.inspection.specs.declared.report.Report.{Report}

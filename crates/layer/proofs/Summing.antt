@@ -1,5 +1,5 @@
 -- A sum of taps does not depend on their order: by columns it is what it is by rows.
-use Rattle.std.proofs.Common.{◌≡◌, ℕ, zero, suc, ◌+◌, ◌-◌, ◌*◌, ◌<◌, ◌≤◌, ℤ, nat_abs, Some, Option, sym, refl, ap, ◌∙◌, subst, add-zero, add-suc, mul_comm, add-one, arith}
+use Rattle.std.proofs.Common.{◌≡◌, ℕ, zero, suc, ◌+◌, ◌*◌, ◌<◌, ◌≤◌, ℤ, nat_abs, Some, Option, sym, refl, ap, ◌∙◌, subst, add-zero, add-suc, mul_comm, add-one, arith}
 use Rattle.pixel.specs.Ops.{Ops}
 use Rattle.picture.specs.Compose.{summed}
 use Rattle.layer.specs.Sums.{or_black, downward, columned}

@@ -1,5 +1,5 @@
 -- A step that stands over a picture whose size the layer keeps.
-use Rattle.std.specs.Prelude.{◌≡◌, ℕ, zero, suc, ◌+◌, ◌-◌, ◌*◌, ◌≤◌, true, List, [], ◌∷◌, ℤ, pos, slice_index_or, unsigned_abs}
+use Rattle.std.specs.Prelude.{◌≡◌, ℕ, zero, suc, ◌+◌, ◌*◌, ◌≤◌, true, List, [], ◌∷◌, ℤ, pos, slice_index_or, unsigned_abs}
 use Rattle.std.proofs.Common.{sym, ◌∙◌, ap, subst, add-suc, add-zero, arith}
 use Rattle.std.proofs.lemmas.Nat.{mul-le}
 use Rattle.pixel.specs.Ops.{Ops}

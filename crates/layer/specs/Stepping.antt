@@ -1,5 +1,5 @@
 -- The ways to make a part make what the steps' formulas ask for.
-use Rattle.std.specs.Prelude.{◌≡◌, ℕ, ◌+◌, ◌-◌, ◌*◌, ◌/◌, ◌%◌, ◌≤◌, ℤ, pos, ◌-ℤ◌, Option, refl}
+use Rattle.std.specs.Prelude.{◌≡◌, ℕ, ◌+◌, ◌*◌, ◌/◌, ◌%◌, ◌≤◌, ℤ, pos, ◌-ℤ◌, Option, refl}
 use Rattle.std.proofs.Common.{sym, ◌∙◌, ap, subst, add-zero, add-mul, div-mul-le_self, mul_comm, mul-le-mul_right, arith}
 use Rattle.std.proofs.lemmas.Nat.{div_below, mod_below}
 use Rattle.picture.specs.declared.rect.Rect.{Rect}

@@ -9,7 +9,7 @@ use Rattle.source.specs.Raster as source
 use Rattle.source.specs.Raster.{wide, sample_of, samples_of}
 use Rattle.source.specs.Files as files
 use Rattle.source.specs.Sampling.{samples_long}
-use Rattle.writer.specs.File.{sample_width, sample_bytes, pixel_width, pixel_bytes}
+use Rattle.writer.specs.File.{sample_width, sample_bytes, pixel_width}
 use Rattle.writer.proofs.Joins.{length-sample_bytes, room}
 use Rattle.reread.proofs.Parts.{part_at}
 

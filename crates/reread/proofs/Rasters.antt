@@ -11,7 +11,7 @@ use Rattle.picture.specs.Places.{pixel, fault_of}
 use Rattle.picture.specs.Images.{Image, Bounded, Dim}
 use Rattle.source.specs.Files.{pixel_at}
 use Rattle.source.specs.Files as files
-use Rattle.writer.specs.File.{place_of, place_bytes, pixel_bytes, pixel_width, reading, raster}
+use Rattle.writer.specs.File.{place_of, place_bytes, pixel_width, reading, raster}
 use Rattle.writer.proofs.Codes.{at_place, places_long}
 use Rattle.writer.proofs.Joins.{length-pixel_bytes, room}
 use Rattle.reread.specs.Trips.{NoHoles, Holds, Eights}

@@ -1,5 +1,5 @@
 -- Picture A is grey, 3 by 2, maxval 255, rows 10 20 30 and 40 50 60; its file has 17 bytes. Picture B is that file cut to 15 bytes. Both are source 0.
-use Rattle.std.specs.Prelude.{◌≡◌, ℕ, ◌+◌, ◌*◌, ◌/◌, ◌%◌, ◌≤◌, true, false, List, [], ◌∷◌, map, length, take, ℤ, pos, negsuc, Some, None, Ok, Err, Option, Result}
+use Rattle.std.specs.Prelude.{◌≡◌, ℕ, ◌+◌, ◌*◌, ◌/◌, ◌%◌, ◌≤◌, true, false, List, [], ◌∷◌, map, length, take, pos, negsuc, Some, None, Ok, Err, Option, Result}
 use Rattle.std.proofs.Common.{lit≤}
 use Rattle.std.specs.List.{range_with_len}
 use Rattle.pixel.specs.declared.pixels.Grey.{Grey}

@@ -1,15 +1,15 @@
 -- Reading the bytes of pixels.
-use Rattle.std.proofs.Common.{◌≡◌, ℕ, zero, suc, ◌+◌, ◌-◌, ◌*◌, ◌/◌, ◌%◌, ◌<◌, ◌≤◌, List, ◌++◌, length, get_or, Some, None, Ok, Err, Option, Result, sym, refl, ap, ◌∙◌, subst, mul_comm, arith}
+use Rattle.std.proofs.Common.{◌≡◌, ℕ, ◌+◌, ◌-◌, ◌*◌, ◌/◌, ◌%◌, ◌<◌, ◌≤◌, List, ◌++◌, length, get_or, Some, None, Ok, Err, sym, refl, ap, ◌∙◌, subst, mul_comm, arith}
 use native.Mathlib.Nat.{div-add-mod}
 use Rattle.std.proofs.lemmas.List.{get_or_append_left}
 use Rattle.std.proofs.lemmas.Nat.{div_below, mod_below}
 use Rattle.store.specs.Cells.{Cell}
 use Rattle.store.specs.Reads.{answer, before, filled, value, place_of}
 use Rattle.store.specs.declared.lack.Lack.{Lack}
-use Rattle.store.proofs.Answering.{answer_front, answer_past, answer_refused, answer_at, filled_at, stop, Stop}
+use Rattle.store.proofs.Answering.{answer_front, answer_past, answer_at, filled_at, stop, Stop}
 use Rattle.picture.specs.declared.fault.Cause.{Cause}
 use Rattle.source.specs.Files.{lack_cause, lacking}
-use Rattle.source.specs.Loading.{Loaded, Lacks}
+use Rattle.source.specs.Loading.{Loaded}
 
 -- the bytes behind a read that was answered
 pub read-bytes : (at : ℕ → Cell) (p : ℕ) (old part rest : List ℕ) (n : ℕ) → length old ≡ n → length part ≡ length old → Ok tt ≡ answer at p (length old) → part ≡ filled at p old

@@ -1,5 +1,5 @@
 -- Behind the end of a store every pixel misses its first byte.
-use Rattle.std.proofs.Common.{◌≡◌, ℕ, zero, suc, ◌+◌, ◌-◌, ◌*◌, ◌/◌, ◌%◌, ◌<◌, ◌≤◌, Ok, Err, sym, refl, ap, ◌∙◌, ⊎_elim, mul-le-mul_right, mul_comm, add-mul, one-mul, arith}
+use Rattle.std.proofs.Common.{◌≡◌, ℕ, ◌+◌, ◌-◌, ◌*◌, ◌/◌, ◌%◌, ◌<◌, ◌≤◌, Err, refl, ap, ◌∙◌, ⊎_elim, mul-le-mul_right, mul_comm, add-mul, one-mul, arith}
 use native.Mathlib.Nat.{div-add-mod}
 use Rattle.std.proofs.lemmas.Nat.{mod_below}
 use Rattle.std.proofs.lemmas.Bool.{cases_lt}
@@ -12,7 +12,7 @@ use Rattle.picture.specs.declared.fault.Cause.TheVariants.{Missing}
 use Rattle.picture.specs.Places.{hole}
 use Rattle.source.specs.declared.raster.Raster.{Raster}
 use Rattle.source.specs.Raster.{wide, samples_of}
-use Rattle.source.specs.Files.{fault_at, lacking, pixel_at, pixel_bytes, raster_image, seen}
+use Rattle.source.specs.Files.{fault_at, lacking, pixel_bytes, raster_image, seen}
 use Rattle.source.specs.Extent.{Silent, LostBehind}
 
 -- n pixels of step bytes reach the end

@@ -1,5 +1,5 @@
 -- Which store is opened as a picture of a kind.
-use Rattle.std.specs.Prelude.{◌≡◌, ℕ, ◌<◌, ◌≤◌, cond, List, [], Ok, Err, Result, nat_le}
+use Rattle.std.specs.Prelude.{◌≡◌, ℕ, ◌≤◌, cond, List, [], Ok, Err, Result, nat_le}
 use Rattle.picture.specs.declared.fault.Refused.{Refused}
 use Rattle.picture.specs.Refusals.{Outcome, done, refused, told}
 use Rattle.source.specs.declared.file.FileSource.{FileSource}

@@ -1,5 +1,5 @@
 -- A picture file's raster: the bytes of each pixel, rows from the top, each from the left.
-use Rattle.std.specs.Prelude.{ℕ, ◌+◌, ◌*◌, Bool, true, false, cond, ◌&&◌, List, [], ◌∷◌, map, Some, None, Option, nat_le, slice_index}
+use Rattle.std.specs.Prelude.{ℕ, ◌+◌, ◌*◌, Bool, true, cond, ◌&&◌, List, [], ◌∷◌, map, Some, None, Option, nat_le, slice_index}
 use Rattle.std.specs.List.{range_with_len}
 use Rattle.pixel.specs.Ops.{Ops, joined}
 

@@ -1,8 +1,7 @@
 -- A run of pixels of a row of a file.
-use Rattle.std.specs.Prelude.{◌≡◌, ℕ, zero, suc, ◌+◌, ◌-◌, ◌*◌, ◌<◌, ◌≤◌, Bool, true, false, cond, List, ◌++◌, map, length, Some, None, Ok, Err, Option, Result, slice_index, refl}
-use Rattle.std.proofs.Common.{sym, ◌∙◌, ap, subst, ⊎_elim, mul_comm, mul-le-mul_right, add-mul, one-mul, arith}
-use Rattle.std.specs.List.{range_with_len}
-use Rattle.std.proofs.lemmas.List.FromFn.{fill_by_all, get_or-map-range_with_len, length-map-range_with_len}
+use Rattle.std.specs.Prelude.{◌≡◌, ℕ, suc, ◌+◌, ◌-◌, ◌*◌, ◌<◌, ◌≤◌, Bool, true, false, cond, List, ◌++◌, length, Some, None, Ok, Err, Option, slice_index, refl}
+use Rattle.std.proofs.Common.{sym, ◌∙◌, ap, subst, ⊎_elim, mul_comm, add-mul, arith}
+use Rattle.std.proofs.lemmas.List.FromFn.{fill_by_all, get_or-map-range_with_len}
 use Rattle.std.proofs.lemmas.List.{get_or_append_left}
 use Rattle.std.proofs.lemmas.Bool.{cases_Bool, cond-true, cond-false}
 use Rattle.pixel.specs.Ops.{Ops, Under, joined}
@@ -18,7 +17,7 @@ use Rattle.picture.specs.Prepare.{coded, lined, Shown, or_fault, first_in}
 use Rattle.picture.proofs.Faults.{first_stays, shown_clean}
 use Rattle.picture.proofs.Serving.{row_end}
 use Rattle.source.specs.declared.raster.Raster.{Raster}
-use Rattle.source.specs.Raster.{wide, sample_bytes, sample_of, samples_of, under, from, code_of}
+use Rattle.source.specs.Raster.{wide, sample_bytes, sample_of, samples_of, under, from}
 use Rattle.source.specs.Files.{seen, lacking, fault_at, pixel_bytes, pixel_at, raster_image}
 use Rattle.source.specs.Loading.{Loaded, Lacks}
 use Rattle.source.specs.Runs.{Decoded}

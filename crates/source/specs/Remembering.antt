@@ -1,11 +1,11 @@
 -- A row of a picture in memory.
-use Rattle.std.specs.Prelude.{◌≡◌, ℕ, ◌+◌, ◌*◌, ◌<◌, ◌≤◌, Bool, true, false, cond, ◌≢◌, List, length, Some, None, Option, slice_index, slice_set, refl}
+use Rattle.std.specs.Prelude.{◌≡◌, ℕ, ◌+◌, ◌*◌, ◌<◌, Bool, true, false, cond, ◌≢◌, List, length, Some, None, Option, slice_index, slice_set, refl}
 use Rattle.std.proofs.Common.{sym, ◌∙◌, ap, arith, get_or-set_same, get_or-set_other, below_more}
 use Rattle.pixel.specs.Ops.{Ops}
 use Rattle.picture.specs.declared.fault.Cause.TheVariants.{NoPixel}
 use Rattle.picture.specs.declared.fault.Fault.{Fault}
 use Rattle.picture.specs.declared.size.Size.{Size}
-use Rattle.picture.specs.Places.{Place, pixel, hole}
+use Rattle.picture.specs.Places.{pixel, hole}
 use Rattle.picture.specs.Images.{Dim}
 use Rattle.picture.specs.Prepare.{Shown, coded, lined}
 use Rattle.source.specs.Raster.{under}

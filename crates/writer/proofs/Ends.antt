@@ -5,7 +5,7 @@ use Rattle.picture.specs.declared.fault.Fault.{Fault}
 use Rattle.picture.specs.declared.fault.Refusal.{Refusal}
 use Rattle.picture.specs.declared.rect.Rect.{Rect}
 use Rattle.picture.specs.Refusals.{done, refused, told}
-use Rattle.picture.specs.Places.{Place, hole, first_fault}
+use Rattle.picture.specs.Places.{Place, first_fault}
 use Rattle.picture.specs.Images.{Image, Model}
 use Rattle.picture.specs.Prepare as prepare
 use Rattle.picture.specs.Prepare.{up, area, nth, answer, put, code_at, filled, Prepared}

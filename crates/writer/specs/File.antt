@@ -1,5 +1,5 @@
 -- The file of a picture: a header, then the samples of its pixels in reading order.
-use Rattle.std.specs.Prelude.{ℕ, ◌+◌, ◌*◌, ◌/◌, ◌%◌, cond, List, [], ◌∷◌, ◌++◌, decimal, nat_lt}
+use Rattle.std.specs.Prelude.{ℕ, ◌*◌, ◌/◌, ◌%◌, cond, List, [], ◌∷◌, ◌++◌, decimal, nat_lt}
 use Rattle.std.specs.List.{range_with_len, flat_map}
 use Rattle.pixel.specs.Ops.{Ops}
 use Rattle.picture.specs.Places.{Place, pixel, hole}

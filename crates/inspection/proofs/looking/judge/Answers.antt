@@ -1,4 +1,4 @@
-use Rattle.std.proofs.Common.{◌≡◌, ℕ, ◌*◌, Ok, sym, refl, ap, ◌∙◌, subst, arith}
+use Rattle.std.proofs.Common.{◌≡◌, ℕ, ◌*◌, Ok, sym, ap, ◌∙◌, arith}
 use Rattle.store.specs.Cells.{capped}
 use Rattle.picture.specs.declared.size.Size.{Size}
 use Rattle.source.specs.declared.header.Header.{Header}

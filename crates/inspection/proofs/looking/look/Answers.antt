@@ -1,4 +1,4 @@
-use Rattle.std.proofs.Common.{◌≡◌, ℕ, ◌+◌, ◌-◌, ◌*◌, ◌/◌, ◌%◌, ◌≤◌, min, sym, refl, ap, ◌∙◌, subst, arith}
+use Rattle.std.proofs.Common.{◌≡◌, ◌-◌, ◌*◌, ◌/◌, ◌%◌, ◌≤◌, min, refl, ap, ◌∙◌, arith}
 use Rattle.picture.specs.declared.fault.Cause.TheVariants.{Missing}
 use Rattle.store.specs.Cells.{capped}
 use Rattle.source.specs.declared.raster.Raster.{Raster}

@@ -1,8 +1,8 @@
-use Rattle.std.proofs.Common.{◌≡◌, ℕ, ◌+◌, ◌-◌, ◌*◌, ◌/◌, ◌≤◌, length, Err, sym, refl, ap, ◌∙◌, subst, arith, length-append, rules}
+use Rattle.std.proofs.Common.{◌≡◌, ◌-◌, ◌*◌, ◌/◌, ◌≤◌, length, Err, sym, ap, ◌∙◌, subst, arith, length-append, rules}
 use Rattle.std.proofs.lemmas.List.{length-take}
 use Rattle.store.specs.Cells.{capped}
-use Rattle.store.specs.Reads.{answer, place_of}
-use Rattle.source.proofs.Loads.{Lacked, lacked, loaded_all, loaded_some}
+use Rattle.store.specs.Reads.{answer}
+use Rattle.source.proofs.Loads.{lacked, loaded_all, loaded_some}
 use Rattle.source.proofs.file.read_pixels.Goals as goal
 
 pub overflow_sub-pixels : goal.overflow_sub-pixels

@@ -1,4 +1,4 @@
-use Rattle.std.proofs.Common.{◌≡◌, Some, sym, refl, ap, ◌∙◌, arith, rules}
+use Rattle.std.proofs.Common.{sym, ap, ◌∙◌, arith}
 use Rattle.source.specs.Memory.{accepted_by}
 use Rattle.source.specs.Sampling.{under_not, under_of}
 use Rattle.source.proofs.memory.is_pixel.Goals as goal

@@ -1,6 +1,6 @@
-use Rattle.std.proofs.Common.{◌≡◌, ℕ, ◌+◌, ◌*◌, ◌≤◌, ◌≢◌, length, Some, None, sym, ap, ◌∙◌, subst, mul_comm, arith, get_or-set_other, get_or-set_same, rules, below_more}
+use Rattle.std.proofs.Common.{◌+◌, ◌*◌, ◌≤◌, ◌≢◌, length, Some, sym, ap, ◌∙◌, mul_comm, arith, get_or-set_other, get_or-set_same, rules, below_more}
 use Rattle.picture.proofs.Serving.{row_end}
-use Rattle.source.specs.Raster.{code_of, from, sample_bytes}
+use Rattle.source.specs.Raster.{code_of, from}
 use Rattle.source.proofs.samples.decode.Goals as goal
 
 pub overflow_mul-k : goal.overflow_mul-k

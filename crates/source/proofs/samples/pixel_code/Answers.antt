@@ -1,4 +1,4 @@
-use Rattle.std.proofs.Common.{◌≡◌, ◌+◌, ◌*◌, ◌^◌, ◌<◌, ◌≤◌, true, length, sym, ap, ◌∙◌, arith, rules}
+use Rattle.std.proofs.Common.{◌+◌, ◌*◌, ◌^◌, ◌<◌, ◌≤◌, length, sym, ap, ◌∙◌, arith, rules}
 use Rattle.pixel.specs.Ops.{joined}
 use Rattle.source.specs.Raster.{from, sample_of, samples_of, under}
 use Rattle.source.specs.Sampling.{behind_push, code_none, joined_small, samples_long, samples_more, under_push}

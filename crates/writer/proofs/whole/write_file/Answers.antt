@@ -5,7 +5,7 @@ use Rattle.picture.specs.declared.fault.Refusal.TheVariants.{NoRows, BufferTooSh
 use Rattle.picture.specs.declared.size.Size.{Size}
 use Rattle.picture.specs.Places.{first_fault}
 use Rattle.picture.specs.Images.{Image}
-use Rattle.writer.specs.File.{place_of, pixel_width, header, header_of, raster, file}
+use Rattle.writer.specs.File.{place_of, pixel_width, header, header_of, raster}
 use Rattle.writer.specs.Whole.{file_width}
 use Rattle.writer.proofs.Wholes as wholes
 use Rattle.writer.proofs.whole.write_file.Goals as goal

@@ -1,4 +1,4 @@
-use Rattle.std.proofs.Common.{◌≡◌, ℕ, ◌-◌, ◌<◌, true, false, sym, ap, ◌∙◌, arith}
+use Rattle.std.proofs.Common.{◌≡◌, ℕ, ◌<◌, true, false, sym, ap, ◌∙◌, arith}
 use Rattle.picture.specs.Steps.{formula}
 use Rattle.layer.specs.Laid.{Part}
 use Rattle.layer.specs.Placing.{kept_follows, kept_shows}

@@ -1,4 +1,4 @@
-use Rattle.std.proofs.Common.{◌≡◌, ℕ, ◌+◌, ◌-◌, ◌*◌, ◌/◌, ◌≤◌, length, take, Some, None, Ok, Err, sym, refl, ap, ◌∙◌, subst, mul-le-mul, arith, rules}
+use Rattle.std.proofs.Common.{◌≡◌, ℕ, ◌-◌, ◌*◌, ◌≤◌, length, take, sym, refl, ap, ◌∙◌, mul-le-mul, arith, rules}
 use Rattle.std.proofs.lemmas.List.{length-take}
 use Rattle.store.specs.Cells.{capped}
 use Rattle.picture.specs.Prepare.{lined, or_fault}

@@ -1,6 +1,5 @@
-use Rattle.std.proofs.Common.{◌≡◌, ℕ, ◌+◌, ◌-◌, ◌≤◌, length, Ok, Err, sym, refl, ap, ◌∙◌, subst, arith, rules}
+use Rattle.std.proofs.Common.{◌≡◌, ℕ, ◌+◌, length, Err, sym, ap, ◌∙◌, subst, arith, rules}
 use Rattle.store.specs.Cells.{capped}
-use Rattle.picture.specs.Images.{Image}
 use Rattle.picture.specs.Prepare.{Shown, coded, first_in, lined, or_fault}
 use Rattle.picture.proofs.Faults.{first_moved, first_on, line_on, shown_clean}
 use Rattle.picture.proofs.Serving.{shown_more}

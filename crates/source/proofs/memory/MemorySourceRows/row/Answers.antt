@@ -1,4 +1,4 @@
-use Rattle.std.proofs.Common.{◌≡◌, ℕ, ◌+◌, ◌*◌, true, false, length, sym, refl, ap, ◌∙◌, subst, arith}
+use Rattle.std.proofs.Common.{◌≡◌, ℕ, ◌+◌, length, sym, refl, ap, ◌∙◌, subst, arith}
 use Rattle.picture.specs.declared.fault.Cause.TheVariants.{NoPixel}
 use Rattle.picture.specs.Prepare.{Shown, lined, or_fault}
 use Rattle.picture.proofs.Faults.{shown_clean}
