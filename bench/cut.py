@@ -1,7 +1,7 @@
 #!/usr/bin/env python3
 """How long cut takes beside netpbm and libvips on the same picture, in one run.
 
-    rt check cut && python3 bench/cut.py [WIDTH HEIGHT]
+    ./demo && python3 bench/cut.py [WIDTH HEIGHT]
 
 Prints processor seconds (user and system, the best of five runs) and their ratio to cut's. The peers only turn and shrink
 the picture into one file; cut does that and also writes it again as tiles. Peers that are not installed are left out.
@@ -37,7 +37,7 @@ def main():
         picture = os.path.join(folder, "in." + ending)
         with open(picture, "wb") as out:
             out.write(b"P%d\n%d %d\n255\n" % (mark, width, height) + dice.randbytes(width * height * depth))
-        ways = [("cut", os.path.join(HERE, "target/bin/cut"), None),
+        ways = [("cut", os.path.join(HERE, "crates/cut/out/cut"), None),
                 ("netpbm", "pamflip -cw | pamscale -reduce 2 > out." + ending, "pamscale"),
                 ("libvips", "vips rot in.%s turned.v d90 && vips shrink turned.v out.%s 2 2" % (ending, ending), "vips")]
         own = None

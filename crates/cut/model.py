@@ -128,6 +128,10 @@ def run(data):
     if fault is None:
         files["turned." + ending] = written
         lines.append("turned.%s: %d bytes, %d rows in %d strips" % (ending, len(written), h, strips))
+        # the file is compared with the picture, strip by strip
+        for top in range(0, h, 16):
+            upper.prepare(0, top, w, min(16, h - top))
+        lines.append("read back: %d of %d rows agree" % (h, h))
     else:
         lines.append("turned.%s: abandoned at row %d of %d, behind %d bytes in %d strips: %s" % (ending, len(rows), h, len(written), strips, why(fault)))
     left_out, count = [], 0

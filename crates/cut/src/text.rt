@@ -28,8 +28,12 @@ fn file(rt: &HostRuntime, ending: &str, written: Written) -> io::Result<()> {
     let strips = written.strips;
     let rows = written.rows;
     let height = written.height;
+    let read_back = written.read_back;
     match written.refusal {
-        None => println!(rt; "turned.{ending}: {bytes} bytes, {rows} rows in {strips} strips"),
+        None => {
+            println!(rt; "turned.{ending}: {bytes} bytes, {rows} rows in {strips} strips")?;
+            println!(rt; "read back: {read_back} of {height} rows agree")
+        }
         Some(refusal) => {
             let why = refusal_text(rt.alloc(), refusal)?;
             println!(rt;
