@@ -5,6 +5,7 @@
     python3 model.py files FOLDER < picture         compares the files in a folder with what they should be
 
 The pipeline is source, cache, rot d90, shrink 2 2, cache; both caches have tiles of 16 by 16 and 16 slots.
+A picture with a side of 1 is refused with 7, since shrink does not fit; that line is not foretold.
 How often a step asks below is its own choice. Of a tile of the upper cache, shrink asks for one region of twice the sides,
 and rot for that region turned, since both have room for it; the counts of the lower cache rest on that, and are not foretold where there are holes.
 """
@@ -159,7 +160,10 @@ def run(data):
 
 
 if __name__ == "__main__":
-    lines, files = run(sys.stdin.buffer.read())
+    data = sys.stdin.buffer.read()
+    if min(File(data).w, File(data).h) < 2:
+        sys.exit("refused with 7: nothing is written, and the line is not foretold")
+    lines, files = run(data)
     if sys.argv[1] == "expected":
         print("\n".join(lines))
     else:

@@ -6,7 +6,7 @@ use reread::open;
 use std::{fs, io};
 use store::{Bytes, Store};
 
-/// How many rows from the top two pictures have in common.
+/// How many rows from the top two pictures have in common, counted by whole strips; none where their sizes differ.
 fn common_rows<P: Picture, Q: Picture<Pixel = P::Pixel>>(
     first: &mut P,
     second: &mut Q,
@@ -18,6 +18,9 @@ fn common_rows<P: Picture, Q: Picture<Pixel = P::Pixel>>(
     ensures { P.Picture.sound first.new }
 {
     let size = first.size();
+    if second.size() != size {
+        return 0;
+    }
     let mut rows: u32 = 0;
     for _ in 0..size.height.div_ceil(STRIP) {
         let high = STRIP.min(size.height.saturating_sub(rows));
