@@ -59,8 +59,7 @@ fn unused() -> Tiles
 impl<P: Picture> Cache<P> {
     /// A cache with nothing in it yet.
     pub fn new(shape: TileShape, below: P) -> Cache<P>
-        requires { P.Picture.sound below }
-        ensures { Made P.Pixel.Kind.ops P.Picture.model P.Picture.count P.Picture.sound shape below result }
+        ensures { Made P.Pixel.ops P.model P.count shape below result }
     {
         Cache {
             below,
@@ -79,7 +78,7 @@ impl<P: Picture> Cache<P> {
 
     /// The hits, fetches and bypasses so far.
     pub fn counts(&self) -> Counts
-        ensures { result ≡ counts_of (state_of P.Picture.count self.now) }
+        ensures { result ≡ counts_of (state_of P.count self.now) }
     {
         Counts {
             hits: self.tiles.hits,
@@ -92,13 +91,13 @@ impl<P: Picture> Cache<P> {
 impl<P: Picture> Picture for Cache<P> {
     type Pixel = P::Pixel;
 
-    ghost model = { model_of P.Picture.model };
+    ghost model = { model_of P.model };
 
     ghost count = { λ c. c.count };
 
-    ghost sound = { Sound P.Pixel.Kind.ops P.Picture.model P.Picture.sound };
+    ghost sound = { Sound P.Pixel.ops P.model };
 
-    ghost bare = { Bare P.Picture.bare };
+    ghost bare = { Bare P.bare };
 
     ghost sized = { Prim.search rules };
 
@@ -112,9 +111,8 @@ impl<P: Picture> Picture for Cache<P> {
 
     /// By tiles; where one is refused below, the rectangle itself is prepared there.
     fn prepare(&mut self, rect: Rect, buffer: &mut [u64]) -> Result<(), Refusal>
-        requires { Sound P.Pixel.Kind.ops P.Picture.model P.Picture.sound self.old }
-        ensures prepared { Prepared P.Pixel.Kind.ops (model_of P.Picture.model) (λ c. c.count) (Sound P.Pixel.Kind.ops P.Picture.model P.Picture.sound) self.old rect buffer.old result self.new buffer.new }
-        ensures worked { Worked P.Picture.model P.Picture.count self.old rect (length buffer.old) self.new }
+        ensures prepared { Prepared P.Pixel.ops (model_of P.model) (λ c. c.count) (Sound P.Pixel.ops P.model) self.old rect buffer.old result self.new buffer.new }
+        ensures worked { Worked P.model P.count self.old rect (length buffer.old) self.new }
     {
         self.count = more(self.count);
         let size = self.below.size();
@@ -138,9 +136,8 @@ impl<P: Picture> Picture for Cache<P> {
 
     /// Empties the list, here and below, and keeps the counts.
     fn forget(&mut self)
-        requires { Sound P.Pixel.Kind.ops P.Picture.model P.Picture.sound self.old }
-        ensures forgot { Forgot (model_of P.Picture.model) (λ c. c.count) (Sound P.Pixel.Kind.ops P.Picture.model P.Picture.sound) (Bare P.Picture.bare) self.old self.new }
-        ensures emptied { Emptied P.Picture.count self.old self.new }
+        ensures forgot { Forgot (model_of P.model) (λ c. c.count) (Sound P.Pixel.ops P.model) (Bare P.bare) self.old self.new }
+        ensures emptied { Emptied P.count self.old self.new }
     {
         self.tiles.len = 0;
         self.below.forget();

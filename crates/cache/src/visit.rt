@@ -68,10 +68,10 @@ fn fetch<P: Picture>(
     tiles: &mut Tiles,
     tile: Tile,
 ) -> bool
-    requires stands { Stands P.Pixel.Kind.ops P.Picture.model P.Picture.sound shape size below.old tiles.old }
+    requires stands { Stands P.Pixel.ops P.model shape size below.old tiles.old }
     requires across { tile.column * shape.width < size.width }
     requires down { tile.row * shape.height < size.height }
-    ensures went { Went P.Pixel.Kind.ops P.Picture.model P.Picture.count P.Picture.sound shape (λ s. missed shape.slots (whole (P.Picture.model below.old).shown shape) s tile) below.old tiles.old result below.new tiles.new }
+    ensures went { Went P.Pixel.ops P.model P.count shape (λ s. missed shape.slots (whole (P.model below.old).shown shape) s tile) below.old tiles.old result below.new tiles.new }
     ensures front { result ≡ true → Front tiles.new tile }
 {
     let start = tiles.held[tiles.len].slot as usize * PLACES;
@@ -94,10 +94,10 @@ pub fn visit<P: Picture>(
     tiles: &mut Tiles,
     tile: Tile,
 ) -> bool
-    requires stands { Stands P.Pixel.Kind.ops P.Picture.model P.Picture.sound shape size below.old tiles.old }
+    requires stands { Stands P.Pixel.ops P.model shape size below.old tiles.old }
     requires across { tile.column * shape.width < size.width }
     requires down { tile.row * shape.height < size.height }
-    ensures went { Went P.Pixel.Kind.ops P.Picture.model P.Picture.count P.Picture.sound shape (λ s. visited shape.slots (whole (P.Picture.model below.old).shown shape) s tile) below.old tiles.old result below.new tiles.new }
+    ensures went { Went P.Pixel.ops P.model P.count shape (λ s. visited shape.slots (whole (P.model below.old).shown shape) s tile) below.old tiles.old result below.new tiles.new }
     ensures front { result ≡ true → Front tiles.new tile }
 {
     let i = find(&tiles.held, tiles.len, tile);

@@ -33,12 +33,12 @@ pub fn walk<P: Picture>(
     rect: Rect,
     buffer: &mut [u64],
 ) -> bool
-    requires stands { Stands P.Pixel.Kind.ops P.Picture.model P.Picture.sound shape size below.old tiles.old }
+    requires stands { Stands P.Pixel.ops P.model shape size below.old tiles.old }
     requires across { rect.left + rect.width ≤ size.width }
     requires down { rect.top + rect.height ≤ size.height }
     requires room { area rect ≤ length buffer.old }
-    ensures went { Went P.Pixel.Kind.ops P.Picture.model P.Picture.count P.Picture.sound shape (over_tiles (P.Picture.model below.old).shown shape rect) below.old tiles.old result below.new tiles.new }
-    ensures served { result ≡ true → Served P.Pixel.Kind.ops (P.Picture.model below.old).shown shape rect buffer.new (wideness shape rect * highness shape rect) }
+    ensures went { Went P.Pixel.ops P.model P.count shape (over_tiles (P.model below.old).shown shape rect) below.old tiles.old result below.new tiles.new }
+    ensures served { result ≡ true → Served P.Pixel.ops (P.model below.old).shown shape rect buffer.new (wideness shape rect * highness shape rect) }
     ensures rest { Beyond rect buffer.old buffer.new }
 {
     let first = rect.left / shape.width;

@@ -50,8 +50,6 @@ impl Sum {
 
 /// One prepare of a dragged rectangle.
 fn turn<P: Picture>(picture: &mut P, drag: Drag, i: u32, buffer: &mut [u64], sum: &mut Sum)
-    requires { P.Picture.sound picture.old }
-    ensures { P.Picture.sound picture.new }
 {
     let left = drag.left.saturating_add(i.saturating_mul(drag.across));
     let top = drag.top.saturating_add(i.saturating_mul(drag.down));
@@ -69,8 +67,6 @@ fn turn<P: Picture>(picture: &mut P, drag: Drag, i: u32, buffer: &mut [u64], sum
 }
 
 fn drag_there<P: Picture>(picture: &mut P, drag: Drag, buffer: &mut [u64], sum: &mut Sum)
-    requires { P.Picture.sound picture.old }
-    ensures { P.Picture.sound picture.new }
 {
     for i in 0..drag.turns {
         turn(picture, drag, i, buffer, sum);
@@ -78,8 +74,6 @@ fn drag_there<P: Picture>(picture: &mut P, drag: Drag, buffer: &mut [u64], sum: 
 }
 
 fn drag_back<P: Picture>(picture: &mut P, drag: Drag, buffer: &mut [u64], sum: &mut Sum)
-    requires { P.Picture.sound picture.old }
-    ensures { P.Picture.sound picture.new }
 {
     for i in 0..drag.turns {
         turn(picture, drag, drag.turns - 1 - i, buffer, sum);
@@ -88,8 +82,6 @@ fn drag_back<P: Picture>(picture: &mut P, drag: Drag, buffer: &mut [u64], sum: &
 
 /// Carries out the commands of a run.
 pub fn drive<P: Picture>(picture: &mut P, commands: &[Command], buffer: &mut [u64]) -> Sum
-    requires { P.Picture.sound picture.old }
-    ensures { P.Picture.sound picture.new }
 {
     let mut sum = Sum::new();
     for command in commands {

@@ -25,7 +25,6 @@ fn one<P: Picture + Drop>(
     commands: &[Command],
     buffer: &mut [u64],
 ) -> Outcome
-    requires { P.Picture.sound below }
 {
     let mut cache = Cache::new(shape, below);
     let sum = drive(&mut cache, commands, buffer);
@@ -46,7 +45,6 @@ fn two<P: Picture + Drop>(
     commands: &[Command],
     buffer: &mut [u64],
 ) -> Outcome
-    requires { P.Picture.sound below }
 {
     let mut cache = Cache::new(upper, Cache::new(lower, below));
     let sum = drive(&mut cache, commands, buffer);
@@ -66,7 +64,6 @@ fn stack<P: Picture + Drop>(
     commands: &[Command],
     buffer: &mut [u64],
 ) -> Result<Outcome, Refusal>
-    requires { P.Picture.sound below }
 {
     let lowest = Cache::new(shapes[0], below);
     match Layer::new(lowest, Step::Rot(Turn::D90)) {
@@ -81,7 +78,6 @@ fn over<P: Picture + Drop>(
     commands: &[Command],
     buffer: &mut [u64],
 ) -> Result<Outcome, Refusal>
-    requires { P.Picture.sound below }
 {
     match Layer::new(below, Step::Shrink { across: 2, down: 2 }) {
         Ok(shrunk) => Ok(one(shrunk, shape, commands, buffer)),
@@ -96,7 +92,6 @@ fn run<P: Picture + Drop>(
     heap: Global,
     buffer: &mut [u64],
 ) -> Result<Result<Outcome, Refusal>, AllocError>
-    requires { P.Picture.sound below }
 {
     let first = match shape(line, 0) {
         Ok(shape) => shape,

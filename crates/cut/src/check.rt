@@ -13,9 +13,6 @@ fn common_rows<P: Picture, Q: Picture<Pixel = P::Pixel>>(
     a: &mut [u64],
     b: &mut [u64],
 ) -> u32
-    requires first { P.Picture.sound first.old }
-    requires second { Q.Picture.sound second.old }
-    ensures { P.Picture.sound first.new }
 {
     let size = first.size();
     if second.size() != size {
@@ -46,8 +43,6 @@ fn rows_in<P: Picture, S: Store + Drop>(
     a: &mut [u64],
     b: &mut [u64],
 ) -> u32
-    requires { P.Picture.sound picture.old }
-    ensures { P.Picture.sound picture.new }
 {
     match open::<S, P::Pixel>(store, 0) {
         Ok(mut file) => common_rows(picture, &mut file, a, b),
@@ -62,8 +57,6 @@ pub fn read_back<P: Picture>(
     name: &str,
     work: &mut [u64],
 ) -> io::Result<u32>
-    requires { P.Picture.sound picture.old }
-    ensures { P.Picture.sound picture.new }
 {
     let bytes = fs::read(rt, name)?;
     let mut again = vec![in rt.alloc(); 0u64; work.len()]?;

@@ -22,8 +22,6 @@ fn write_all<P: Picture>(
     picture: &mut P,
     ending: &str,
 ) -> io::Result<Result<Done, Refusal>>
-    requires { P.Picture.sound picture.old }
-    ensures { P.Picture.sound picture.new }
 {
     let heap = rt.alloc();
     let places = (picture.size().width as usize * STRIP as usize).max(
@@ -54,7 +52,6 @@ fn turn_and_shrink<P: Picture + Drop>(
     shape: TileShape,
     ending: &str,
 ) -> io::Result<()>
-    requires { P.Picture.sound source }
 {
     let before = source.size();
     let turned = match Layer::new(Cache::new(shape, source), Step::Rot(Turn::D90)) {

@@ -30,8 +30,6 @@ fn put_strips<P: Picture, W: Write>(
     out: &mut [u8],
     head: usize,
 ) -> io::Result<Written>
-    requires { P.Picture.sound picture.old }
-    ensures { P.Picture.sound picture.new }
 {
     let height = picture.size().height;
     let mut bytes = head as u64;
@@ -89,8 +87,6 @@ pub fn write_picture<P: Picture>(
     work: &mut [u64],
     out: &mut [u8],
 ) -> io::Result<Result<Written, Refusal>>
-    requires { P.Picture.sound picture.old }
-    ensures { P.Picture.sound picture.new }
 {
     let begun = match begin(picture, out) {
         Ok(begun) => begun,

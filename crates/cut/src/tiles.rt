@@ -27,8 +27,6 @@ fn cut_tile<P: Picture>(
     out: &mut [u8],
     tiles: &mut Tiles,
 ) -> io::Result<()>
-    requires { P.Picture.sound picture.old }
-    ensures { P.Picture.sound picture.new }
 {
     tiles.all = tiles.all.saturating_add(1);
     match write_tile(picture, column, row, SIDE, work, out) {
@@ -57,8 +55,6 @@ fn cut_row<P: Picture>(
     out: &mut [u8],
     tiles: &mut Tiles,
 ) -> io::Result<()>
-    requires { P.Picture.sound picture.old }
-    ensures { P.Picture.sound picture.new }
 {
     for column in 0..columns {
         let name = format!(in rt.alloc(); "tile-{column}-{row}.{ending}")?;
@@ -75,8 +71,6 @@ pub fn cut_tiles<P: Picture>(
     work: &mut [u64],
     out: &mut [u8],
 ) -> io::Result<Tiles>
-    requires { P.Picture.sound picture.old }
-    ensures { P.Picture.sound picture.new }
 {
     let size = picture.size();
     let columns = size.width.div_ceil(SIDE);

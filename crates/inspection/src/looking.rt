@@ -26,8 +26,8 @@ fn lose(mut survey: Survey, count: u64, fault: Fault) -> Survey
 
 /// Surveys a file whose store has no byte from `end` on. It prepares only places that may have one, so the work grows with the store and not with the numbers in the header.
 fn look<S: Store, K: Kind>(file: &mut FileSource<S, K>, end: u64) -> Survey
-    requires { Silent (capped (S.Store.at file.old.store)) end }
-    ensures value { result ≡ surveyed K.Kind.ops (raster_image K.Kind.ops (capped (S.Store.at file.old.store)) file.old.raster) (file.old.raster.size.width * file.old.raster.size.height) }
+    requires { Silent (capped (S.at file.old.store)) end }
+    ensures value { result ≡ surveyed K.ops (raster_image K.ops (capped (S.at file.old.store)) file.old.raster) (file.old.raster.size.width * file.old.raster.size.height) }
     ensures quick { file.new.count ≤ file.old.count + 2 * end + 12 }
 {
     let raster = file.raster();
@@ -51,11 +51,11 @@ fn look<S: Store, K: Kind>(file: &mut FileSource<S, K>, end: u64) -> Survey
 
 /// What is to be told of an opened file whose store has no byte from `end` on.
 fn tell<S: Store, K: Kind>(file: &mut FileSource<S, K>, end: u64) -> Details
-    requires { Silent (capped (S.Store.at file.old.store)) end }
+    requires { Silent (capped (S.at file.old.store)) end }
     ensures size { result.size ≡ file.old.raster.size }
     ensures header { result.header ≡ file.old.raster.start }
     ensures prepares { result.prepares ≡ file.new.count }
-    ensures survey { result.survey ≡ surveyed K.Kind.ops (raster_image K.Kind.ops (capped (S.Store.at file.old.store)) file.old.raster) (file.old.raster.size.width * file.old.raster.size.height) }
+    ensures survey { result.survey ≡ surveyed K.ops (raster_image K.ops (capped (S.at file.old.store)) file.old.raster) (file.old.raster.size.width * file.old.raster.size.height) }
     ensures quick { result.prepares ≤ file.old.count + 2 * end + 12 }
 {
     let raster = file.raster();
@@ -70,8 +70,8 @@ fn tell<S: Store, K: Kind>(file: &mut FileSource<S, K>, end: u64) -> Details
 
 /// Whether a store that has no byte from `end` on has a picture of this kind, and what is to be told of it.
 fn judge<S: Store + Drop, K: Kind>(store: S, end: u64) -> Finding
-    requires { Silent (capped (S.Store.at store)) end }
-    ensures found { Found K.Kind.ops (capped (S.Store.at store)) result }
+    requires { Silent (capped (S.at store)) end }
+    ensures found { Found K.ops (capped (S.at store)) result }
     ensures quick { Quick end result }
 {
     match FileSource::<S, K>::open(store, 0) {

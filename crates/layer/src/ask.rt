@@ -7,14 +7,12 @@ use pixel::Kind;
 
 /// Prepares a region below that lies inside and has room.
 pub(crate) fn ask<P: Picture>(below: &mut P, at: Rect, codes: &mut [u64]) -> Result<(), Fault>
-    requires sound { P.Picture.sound below.old }
-    requires inside { Inside at (P.Picture.model below.old).shown.width (P.Picture.model below.old).shown.height }
+    requires inside { Inside at (P.model below.old).shown.width (P.model below.old).shown.height }
     requires room { area at ≤ length codes.old }
-    ensures answer { result ≡ first_in (nth (P.Picture.model below.old).shown at) (area at) }
-    ensures shown { result ≡ Ok tt → Shown P.Pixel.Kind.ops (nth (P.Picture.model below.old).shown at) (area at) codes.new }
-    ensures keeps { P.Picture.model below.new ≡ P.Picture.model below.old }
-    ensures counts { P.Picture.count below.new ≡ up (P.Picture.count below.old) }
-    ensures sound { P.Picture.sound below.new }
+    ensures answer { result ≡ first_in (nth (P.model below.old).shown at) (area at) }
+    ensures shown { result ≡ Ok tt → Shown P.Pixel.ops (nth (P.model below.old).shown at) (area at) codes.new }
+    ensures keeps { P.model below.new ≡ P.model below.old }
+    ensures counts { P.count below.new ≡ up (P.count below.old) }
 {
     match below.prepare(at, codes) {
         Ok(()) => Ok(()),

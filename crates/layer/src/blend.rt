@@ -18,14 +18,12 @@ pub(crate) fn single<P: Picture>(
     carry: Carry,
     codes: &mut [u64],
 ) -> Result<u64, Fault>
-    requires sound { P.Picture.sound below.old }
-    requires inside { Inside carry.at (P.Picture.model below.old).shown.width (P.Picture.model below.old).shown.height }
+    requires inside { Inside carry.at (P.model below.old).shown.width (P.model below.old).shown.height }
     requires one { area carry.at ≡ 1 }
     requires room { 1 ≤ length codes.old }
-    ensures answer { (φ : Formula) → Carried carry 0 0 φ → result ≡ located P.Pixel.Kind.ops (taken P.Pixel.Kind.ops (P.Picture.model below.old).shown.maxval (P.Picture.model below.old).shown.at φ) }
-    ensures keeps { P.Picture.model below.new ≡ P.Picture.model below.old }
-    ensures counts { P.Picture.count below.new ≡ up (P.Picture.count below.old) }
-    ensures sound { P.Picture.sound below.new }
+    ensures answer { (φ : Formula) → Carried carry 0 0 φ → result ≡ located P.Pixel.ops (taken P.Pixel.ops (P.model below.old).shown.maxval (P.model below.old).shown.at φ) }
+    ensures keeps { P.model below.new ≡ P.model below.old }
+    ensures counts { P.count below.new ≡ up (P.count below.old) }
 {
     match ask(below, carry.at, codes) {
         Ok(()) => Ok(codes[0]),
@@ -43,17 +41,15 @@ pub(crate) fn blend<P: Picture, W: Weights>(
     maxval: u16,
     codes: &mut [u64],
 ) -> Result<u64, Fault>
-    requires sound { P.Picture.sound below.old }
-    requires inside { Inside lens.at (P.Picture.model below.old).shown.width (P.Picture.model below.old).shown.height }
+    requires inside { Inside lens.at (P.model below.old).shown.width (P.model below.old).shown.height }
     requires lens { Lone lens }
     requires room { 4096 ≤ length codes.old }
-    requires light { (k : ℕ) → unsigned_abs (W.Weights.weighs weights.now k) ≤ 256 }
+    requires light { (k : ℕ) → unsigned_abs (W.weighs weights.now k) ≤ 256 }
     requires scale { 1 ≤ scale }
-    requires maxval { maxval ≡ (P.Picture.model below.old).shown.maxval }
-    ensures answer { (φ : Formula) → Mixed lens (W.Weights.weighs weights.now) scale offset 0 0 φ → result ≡ located P.Pixel.Kind.ops (taken P.Pixel.Kind.ops (P.Picture.model below.old).shown.maxval (P.Picture.model below.old).shown.at φ) }
-    ensures keeps { P.Picture.model below.new ≡ P.Picture.model below.old }
-    ensures counts { P.Picture.count below.new ≡ up (P.Picture.count below.old) }
-    ensures sound { P.Picture.sound below.new }
+    requires maxval { maxval ≡ (P.model below.old).shown.maxval }
+    ensures answer { (φ : Formula) → Mixed lens (W.weighs weights.now) scale offset 0 0 φ → result ≡ located P.Pixel.ops (taken P.Pixel.ops (P.model below.old).shown.maxval (P.model below.old).shown.at φ) }
+    ensures keeps { P.model below.new ≡ P.model below.old }
+    ensures counts { P.count below.new ≡ up (P.count below.old) }
 {
     match ask(below, lens.at, codes) {
         Ok(()) => {

@@ -62,9 +62,9 @@ pub(crate) struct Blended<K, W> {
 }
 
 impl<K: Kind, W: Weights> Draw for Blended<K, W> {
-    ghost drawn = { λ b codes i j. K.Kind.ops.code (K.Kind.ops.finish (summed K.Kind.ops (lens_pixel K.Kind.ops codes b.lens i j) (W.Weights.weighs b.weights) (b.lens.columns * b.lens.rows)) b.scale b.offset b.maxval) };
+    ghost drawn = { λ b codes i j. K.ops.code (K.ops.finish (summed K.ops (lens_pixel K.ops codes b.lens i j) (W.weighs b.weights) (b.lens.columns * b.lens.rows)) b.scale b.offset b.maxval) };
 
-    ghost can = { λ b codes i j. Readable K.Kind.ops codes b.lens i j × ((k : ℕ) → unsigned_abs (W.Weights.weighs b.weights k) ≤ 256) × (1 ≤ b.scale) };
+    ghost can = { λ b codes i j. Readable K.ops codes b.lens i j × ((k : ℕ) → unsigned_abs (W.weighs b.weights k) ≤ 256) × (1 ≤ b.scale) };
 
     fn draw(&self, codes: &[u64], i: u32, j: u32) -> u64 {
         let pixel: K = mix(
@@ -85,9 +85,9 @@ impl<K: Kind, W: Weights> Draw for Blended<K, W> {
 fn lay_row<D: Draw>(draw: &D, codes: &[u64], rect: Rect, part: Rect, j: u32, buffer: &mut [u64])
     requires part { Part rect part }
     requires row { j < part.height }
-    requires can { (i : ℕ) → i < part.width → D.Draw.can draw.now codes.now i j }
+    requires can { (i : ℕ) → i < part.width → D.can draw.now codes.now i j }
     requires room { area rect ≤ length buffer.old }
-    ensures laid { Laid rect part.left (part.top + j) part.width 1 (λ u v c. c ≡ D.Draw.drawn draw.now codes.now (u - part.left) (v - part.top)) buffer.old buffer.new }
+    ensures laid { Laid rect part.left (part.top + j) part.width 1 (λ u v c. c ≡ D.drawn draw.now codes.now (u - part.left) (v - part.top)) buffer.old buffer.new }
     ensures rest { drop (area rect) buffer.new ≡ drop (area rect) buffer.old }
 {
     let wide = part.width;
@@ -100,9 +100,9 @@ fn lay_row<D: Draw>(draw: &D, codes: &[u64], rect: Rect, part: Rect, j: u32, buf
 /// Writes a part into its places of the rectangle's buffer.
 pub(crate) fn lay<D: Draw>(draw: &D, codes: &[u64], rect: Rect, part: Rect, buffer: &mut [u64])
     requires part { Part rect part }
-    requires can { (i j : ℕ) → i < part.width → j < part.height → D.Draw.can draw.now codes.now i j }
+    requires can { (i j : ℕ) → i < part.width → j < part.height → D.can draw.now codes.now i j }
     requires room { area rect ≤ length buffer.old }
-    ensures laid { Laid rect part.left part.top part.width part.height (λ u v c. c ≡ D.Draw.drawn draw.now codes.now (u - part.left) (v - part.top)) buffer.old buffer.new }
+    ensures laid { Laid rect part.left part.top part.width part.height (λ u v c. c ≡ D.drawn draw.now codes.now (u - part.left) (v - part.top)) buffer.old buffer.new }
     ensures rest { drop (area rect) buffer.new ≡ drop (area rect) buffer.old }
 {
     let high = part.height;

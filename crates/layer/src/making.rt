@@ -95,8 +95,7 @@ pub(crate) fn height_of(step: Step, size: Size) -> u32
 impl<P: Picture> Layer<P> {
     /// The step over this picture, if its numbers are within their limits and it fits.
     pub fn new(below: P, step: Step) -> Result<Layer<P>, Refused<P>>
-        requires { P.Picture.sound below }
-        ensures { Made P.Pixel.Kind.ops P.Picture.model P.Picture.sound below step result }
+        ensures { Made P.Pixel.ops P.model below step result }
     {
         let size = below.size();
         if !is_allowed(step) {

@@ -17,11 +17,11 @@ fn add_column<K: Kind, W: Weights>(
     j: u32,
     q: u32,
 ) -> K::Sum
-    requires can { Readable K.Kind.ops codes.now lens i j }
+    requires can { Readable K.ops codes.now lens i j }
     requires inside { q < lens.columns }
-    requires light { (k : ℕ) → unsigned_abs (W.Weights.weighs weights.now k) ≤ 256 }
-    requires room { (n : ℕ) × K.Kind.held sum n × (n + lens.rows ≤ 4096) }
-    ensures { result ≡ downward K.Kind.ops (lens_pixel K.Kind.ops codes.now lens i j) (W.Weights.weighs weights.now) lens.columns q sum lens.rows }
+    requires light { (k : ℕ) → unsigned_abs (W.weighs weights.now k) ≤ 256 }
+    requires room { (n : ℕ) × K.held sum n × (n + lens.rows ≤ 4096) }
+    ensures { result ≡ downward K.ops (lens_pixel K.ops codes.now lens i j) (W.weighs weights.now) lens.columns q sum lens.rows }
 {
     let rows = lens.rows;
     let wide = lens.at.width as usize;
@@ -50,10 +50,10 @@ pub(crate) fn mix<K: Kind, W: Weights>(
     i: u32,
     j: u32,
 ) -> K
-    requires can { Readable K.Kind.ops codes.now lens i j }
-    requires light { (k : ℕ) → unsigned_abs (W.Weights.weighs weights.now k) ≤ 256 }
+    requires can { Readable K.ops codes.now lens i j }
+    requires light { (k : ℕ) → unsigned_abs (W.weighs weights.now k) ≤ 256 }
     requires scale { 1 ≤ scale }
-    ensures { result ≡ K.Kind.ops.finish (summed K.Kind.ops (lens_pixel K.Kind.ops codes.now lens i j) (W.Weights.weighs weights.now) (lens.columns * lens.rows)) scale offset maxval }
+    ensures { result ≡ K.ops.finish (summed K.ops (lens_pixel K.ops codes.now lens i j) (W.weighs weights.now) (lens.columns * lens.rows)) scale offset maxval }
 {
     let columns = lens.columns;
     let mut sum = K::empty();

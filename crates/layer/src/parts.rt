@@ -27,17 +27,15 @@ fn draw_part<P: Picture, D: Draw>(
     part: Rect,
     buffer: &mut [u64],
 ) -> bool
-    requires sound { P.Picture.sound below.old }
-    requires inside { Inside at (P.Picture.model below.old).shown.width (P.Picture.model below.old).shown.height }
+    requires inside { Inside at (P.model below.old).shown.width (P.model below.old).shown.height }
     requires part { Part rect part }
-    requires can { (codes : List ℕ) → area at ≤ length codes → Shown P.Pixel.Kind.ops (nth (P.Picture.model below.old).shown at) (area at) codes → (i j : ℕ) → i < part.width → j < part.height → D.Draw.can draw.now codes i j }
+    requires can { (codes : List ℕ) → area at ≤ length codes → Shown P.Pixel.ops (nth (P.model below.old).shown at) (area at) codes → (i j : ℕ) → i < part.width → j < part.height → D.can draw.now codes i j }
     requires room { area rect ≤ length buffer.old }
-    ensures laid { result ≡ true → (codes : List ℕ) × Shown P.Pixel.Kind.ops (nth (P.Picture.model below.old).shown at) (area at) codes × Laid rect part.left part.top part.width part.height (λ u v c. c ≡ D.Draw.drawn draw.now codes (u - part.left) (v - part.top)) buffer.old buffer.new }
+    ensures laid { result ≡ true → (codes : List ℕ) × Shown P.Pixel.ops (nth (P.model below.old).shown at) (area at) codes × Laid rect part.left part.top part.width part.height (λ u v c. c ≡ D.drawn draw.now codes (u - part.left) (v - part.top)) buffer.old buffer.new }
     ensures spared { result ≡ false → buffer.new ≡ buffer.old }
     ensures rest { drop (area rect) buffer.new ≡ drop (area rect) buffer.old }
-    ensures keeps { P.Picture.model below.new ≡ P.Picture.model below.old }
-    ensures counts { (n : ℕ) × (P.Picture.count below.new ≡ raised n (P.Picture.count below.old)) }
-    ensures sound { P.Picture.sound below.new }
+    ensures keeps { P.model below.new ≡ P.model below.old }
+    ensures counts { (n : ℕ) × (P.count below.new ≡ raised n (P.count below.old)) }
 {
     if at.area() > codes.len() {
         return false;
@@ -63,18 +61,16 @@ impl<P: Picture> Layer<P> {
         part: Rect,
         buffer: &mut [u64],
     ) -> bool
-        requires sound { Sound P.Pixel.Kind.ops P.Picture.model P.Picture.sound self.old }
         requires inside { Inside lens.at self.old.size.width self.old.size.height }
         requires few { Few lens }
-        requires light { (k : ℕ) → unsigned_abs (W.Weights.weighs weights k) ≤ 256 }
+        requires light { (k : ℕ) → unsigned_abs (W.weighs weights k) ≤ 256 }
         requires scale { 1 ≤ scale }
         requires part { Part rect part }
         requires room { area rect ≤ length buffer.old }
-        ensures laid { result ≡ true → Laid rect part.left part.top part.width part.height (λ u v c. (φ : Formula) → Mixed lens (W.Weights.weighs weights) scale offset (u - part.left) (v - part.top) φ → coded P.Pixel.Kind.ops (taken P.Pixel.Kind.ops (P.Picture.model self.old.below).shown.maxval (P.Picture.model self.old.below).shown.at φ) ≡ Some c) buffer.old buffer.new }
+        ensures laid { result ≡ true → Laid rect part.left part.top part.width part.height (λ u v c. (φ : Formula) → Mixed lens (W.weighs weights) scale offset (u - part.left) (v - part.top) φ → coded P.Pixel.ops (taken P.Pixel.ops (P.model self.old.below).shown.maxval (P.model self.old.below).shown.at φ) ≡ Some c) buffer.old buffer.new }
         ensures spared { result ≡ false → buffer.new ≡ buffer.old }
         ensures rest { drop (area rect) buffer.new ≡ drop (area rect) buffer.old }
-        ensures kept { Kept P.Pixel.Kind.ops P.Picture.model P.Picture.count self.old self.new }
-        ensures sound { Sound P.Pixel.Kind.ops P.Picture.model P.Picture.sound self.new }
+        ensures kept { Kept P.Pixel.ops P.model P.count self.old self.new }
     {
         let blended: Blended<P::Pixel, W> = Blended {
             lens,
@@ -97,17 +93,15 @@ impl<P: Picture> Layer<P> {
 
     /// A part at once, or it says no.
     pub(crate) fn block(&mut self, rect: Rect, part: Rect, buffer: &mut [u64]) -> bool
-        requires sound { Sound P.Pixel.Kind.ops P.Picture.model P.Picture.sound self.old }
         requires part { Part rect part }
-        requires across { rect.left + rect.width ≤ (model_of P.Pixel.Kind.ops P.Picture.model self.old).shown.width }
-        requires down { rect.top + rect.height ≤ (model_of P.Pixel.Kind.ops P.Picture.model self.old).shown.height }
+        requires across { rect.left + rect.width ≤ (model_of P.Pixel.ops P.model self.old).shown.width }
+        requires down { rect.top + rect.height ≤ (model_of P.Pixel.ops P.model self.old).shown.height }
         requires room { area rect ≤ length buffer.old }
-        ensures laid { result ≡ true → Shows P.Pixel.Kind.ops (model_of P.Pixel.Kind.ops P.Picture.model self.old).shown rect part buffer.old buffer.new }
+        ensures laid { result ≡ true → Shows P.Pixel.ops (model_of P.Pixel.ops P.model self.old).shown rect part buffer.old buffer.new }
         ensures spared { result ≡ false → buffer.new ≡ buffer.old }
         ensures rest { drop (area rect) buffer.new ≡ drop (area rect) buffer.old }
-        ensures kept { Kept P.Pixel.Kind.ops P.Picture.model P.Picture.count self.old self.new }
-        ensures sound { Sound P.Pixel.Kind.ops P.Picture.model P.Picture.sound self.new }
-        ensures quiet { Needless (formula self.old.step self.old.size.width self.old.size.height) part → (result ≡ true) × (P.Picture.count self.new.below ≡ P.Picture.count self.old.below) }
+        ensures kept { Kept P.Pixel.ops P.model P.count self.old self.new }
+        ensures quiet { Needless (formula self.old.step self.old.size.width self.old.size.height) part → (result ≡ true) × (P.count self.new.below ≡ P.count self.old.below) }
     {
         match aim(self.step, self.size, part) {
             Aim::Black => {

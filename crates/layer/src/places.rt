@@ -13,12 +13,10 @@ use pixel::Kind;
 impl<P: Picture> Layer<P> {
     /// The code of one place, or its fault.
     pub(crate) fn place(&mut self, u: u32, v: u32) -> Result<u64, Fault>
-        requires sound { Sound P.Pixel.Kind.ops P.Picture.model P.Picture.sound self.old }
-        requires across { u < (model_of P.Pixel.Kind.ops P.Picture.model self.old).shown.width }
-        requires down { v < (model_of P.Pixel.Kind.ops P.Picture.model self.old).shown.height }
-        ensures answer { result ≡ located P.Pixel.Kind.ops ((model_of P.Pixel.Kind.ops P.Picture.model self.old).shown.at u v) }
-        ensures kept { Kept P.Pixel.Kind.ops P.Picture.model P.Picture.count self.old self.new }
-        ensures sound { Sound P.Pixel.Kind.ops P.Picture.model P.Picture.sound self.new }
+        requires across { u < (model_of P.Pixel.ops P.model self.old).shown.width }
+        requires down { v < (model_of P.Pixel.ops P.model self.old).shown.height }
+        ensures answer { result ≡ located P.Pixel.ops ((model_of P.Pixel.ops P.model self.old).shown.at u v) }
+        ensures kept { Kept P.Pixel.ops P.model P.count self.old self.new }
     {
         let maxval = self.size.maxval;
         match aim(self.step, self.size, rect(u, v, 1, 1)) {

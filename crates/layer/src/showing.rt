@@ -16,17 +16,17 @@ use pixel::Kind;
 impl<P: Picture> Rows for Layer<P> {
     type Pixel = P::Pixel;
 
-    ghost view = { λ l. (model_of P.Pixel.Kind.ops P.Picture.model l).shown };
+    ghost view = { λ l. (model_of P.Pixel.ops P.model l).shown };
 
-    ghost ready = { Sound P.Pixel.Kind.ops P.Picture.model P.Picture.sound };
+    ghost ready = { Sound P.Pixel.ops P.model };
 
-    ghost same = { Kept P.Pixel.Kind.ops P.Picture.model P.Picture.count };
+    ghost same = { Kept P.Pixel.ops P.model P.count };
 
-    ghost stays = { λ p. kept-none P.Pixel.Kind.ops P.Picture.model P.Picture.count p p refl refl refl refl };
+    ghost stays = { λ p. kept-none P.Pixel.ops P.model P.count p p refl refl refl refl };
 
-    ghost follows = { λ p q r a b. kept_follows P.Pixel.Kind.ops P.Picture.model P.Picture.count p q r a b };
+    ghost follows = { λ p q r a b. kept_follows P.Pixel.ops P.model P.count p q r a b };
 
-    ghost shows = { λ p q a. ap (λ m. m.shown) (kept_shows P.Pixel.Kind.ops P.Picture.model P.Picture.count p q a) };
+    ghost shows = { λ p q a. ap (λ m. m.shown) (kept_shows P.Pixel.ops P.model P.count p q a) };
 
     fn row(&mut self, left: u32, row: u32, out: &mut [u64]) -> Result<(), Fault> {
         for k in 0..out.len() {
@@ -42,9 +42,8 @@ impl<P: Picture> Rows for Layer<P> {
 impl<P: Picture> Layer<P> {
     /// A prepare that also says how often it asks the picture below.
     pub fn prepare_counted(&mut self, rect: Rect, buffer: &mut [u64]) -> Result<(), Refusal>
-        requires { Sound P.Pixel.Kind.ops P.Picture.model P.Picture.sound self.old }
-        ensures prepared { Prepared P.Pixel.Kind.ops (model_of P.Pixel.Kind.ops P.Picture.model) (λ l. l.count) (Sound P.Pixel.Kind.ops P.Picture.model P.Picture.sound) self.old rect buffer.old result self.new buffer.new }
-        ensures asked { Asked (formula self.old.step (P.Picture.model self.old.below).shown.width (P.Picture.model self.old.below).shown.height) rect (outcome result) (P.Picture.count self.old.below) (P.Picture.count self.new.below) }
+        ensures prepared { Prepared P.Pixel.ops (model_of P.Pixel.ops P.model) (λ l. l.count) (Sound P.Pixel.ops P.model) self.old rect buffer.old result self.new buffer.new }
+        ensures asked { Asked (formula self.old.step (P.model self.old.below).shown.width (P.model self.old.below).shown.height) rect (outcome result) (P.count self.old.below) (P.count self.new.below) }
     {
         self.count = self.count.saturating_add(1);
         let wide = width_of(self.step, self.size);
@@ -65,24 +64,24 @@ impl<P: Picture> Layer<P> {
 impl<P: Picture> Picture for Layer<P> {
     type Pixel = P::Pixel;
 
-    ghost model = { model_of P.Pixel.Kind.ops P.Picture.model };
+    ghost model = { model_of P.Pixel.ops P.model };
 
     ghost count = { λ l. l.count };
 
-    ghost sound = { Sound P.Pixel.Kind.ops P.Picture.model P.Picture.sound };
+    ghost sound = { Sound P.Pixel.ops P.model };
 
-    ghost bare = { λ l. P.Picture.bare l.below };
+    ghost bare = { λ l. P.bare l.below };
 
     ghost sized = { λ l h.
-        let b = (P.Picture.model l.below).shown in
-        sized_step P.Pixel.Kind.ops l.step b (P.Picture.sized l.below h.0) h.1.allowed (stood_fits b l.step l.size h.1) };
+        let b = (P.model l.below).shown in
+        sized_step P.Pixel.ops l.step b (P.sized l.below h.0) h.1.allowed (stood_fits b l.step l.size h.1) };
 
     ghost bounded = { λ l h.
-        let b = (P.Picture.model l.below).shown in
-        bounded_step P.Pixel.Kind.ops l.step b (P.Picture.sized l.below h.0) (P.Picture.bounded l.below h.0)
-        P.Pixel.Kind.blacks P.Pixel.Kind.whites P.Pixel.Kind.limits h.1.allowed (stood_fits b l.step l.size h.1) };
+        let b = (P.model l.below).shown in
+        bounded_step P.Pixel.ops l.step b (P.sized l.below h.0) (P.bounded l.below h.0)
+        P.Pixel.blacks P.Pixel.whites P.Pixel.limits h.1.allowed (stood_fits b l.step l.size h.1) };
 
-    ghost composed = { λ l h. composed-step P.Pixel.Kind.ops l.step (P.Picture.model l.below) (P.Picture.composed l.below h.0) };
+    ghost composed = { λ l h. composed-step P.Pixel.ops l.step (P.model l.below) (P.composed l.below h.0) };
 
     fn size(&self) -> Size {
         Size {

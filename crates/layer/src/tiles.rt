@@ -15,16 +15,14 @@ use pixel::Kind;
 impl<P: Picture> Layer<P> {
     /// Row `j` of a part, place by place; or it says no, if one is a hole.
     fn exact_row(&mut self, whole: Rect, part: Rect, j: u32, buffer: &mut [u64]) -> bool
-        requires sound { Sound P.Pixel.Kind.ops P.Picture.model P.Picture.sound self.old }
         requires part { Part whole part }
         requires row { j < part.height }
-        requires across { whole.left + whole.width ≤ (model_of P.Pixel.Kind.ops P.Picture.model self.old).shown.width }
-        requires down { whole.top + whole.height ≤ (model_of P.Pixel.Kind.ops P.Picture.model self.old).shown.height }
+        requires across { whole.left + whole.width ≤ (model_of P.Pixel.ops P.model self.old).shown.width }
+        requires down { whole.top + whole.height ≤ (model_of P.Pixel.ops P.model self.old).shown.height }
         requires room { area whole ≤ length buffer.old }
-        ensures laid { result ≡ true → Laid whole part.left (part.top + j) part.width 1 (λ u v c. coded P.Pixel.Kind.ops ((model_of P.Pixel.Kind.ops P.Picture.model self.old).shown.at u v) ≡ Some c) buffer.old buffer.new }
+        ensures laid { result ≡ true → Laid whole part.left (part.top + j) part.width 1 (λ u v c. coded P.Pixel.ops ((model_of P.Pixel.ops P.model self.old).shown.at u v) ≡ Some c) buffer.old buffer.new }
         ensures rest { drop (area whole) buffer.new ≡ drop (area whole) buffer.old }
-        ensures kept { Kept P.Pixel.Kind.ops P.Picture.model P.Picture.count self.old self.new }
-        ensures sound { Sound P.Pixel.Kind.ops P.Picture.model P.Picture.sound self.new }
+        ensures kept { Kept P.Pixel.ops P.model P.count self.old self.new }
     {
         let wide = part.width;
         let above = (part.top - whole.top + j) as usize * whole.width as usize;
@@ -39,15 +37,13 @@ impl<P: Picture> Layer<P> {
 
     /// A part, place by place; or it says no, if one is a hole.
     fn exact(&mut self, whole: Rect, part: Rect, buffer: &mut [u64]) -> bool
-        requires sound { Sound P.Pixel.Kind.ops P.Picture.model P.Picture.sound self.old }
         requires part { Part whole part }
-        requires across { whole.left + whole.width ≤ (model_of P.Pixel.Kind.ops P.Picture.model self.old).shown.width }
-        requires down { whole.top + whole.height ≤ (model_of P.Pixel.Kind.ops P.Picture.model self.old).shown.height }
+        requires across { whole.left + whole.width ≤ (model_of P.Pixel.ops P.model self.old).shown.width }
+        requires down { whole.top + whole.height ≤ (model_of P.Pixel.ops P.model self.old).shown.height }
         requires room { area whole ≤ length buffer.old }
-        ensures laid { result ≡ true → Shows P.Pixel.Kind.ops (model_of P.Pixel.Kind.ops P.Picture.model self.old).shown whole part buffer.old buffer.new }
+        ensures laid { result ≡ true → Shows P.Pixel.ops (model_of P.Pixel.ops P.model self.old).shown whole part buffer.old buffer.new }
         ensures rest { drop (area whole) buffer.new ≡ drop (area whole) buffer.old }
-        ensures kept { Kept P.Pixel.Kind.ops P.Picture.model P.Picture.count self.old self.new }
-        ensures sound { Sound P.Pixel.Kind.ops P.Picture.model P.Picture.sound self.new }
+        ensures kept { Kept P.Pixel.ops P.model P.count self.old self.new }
     {
         let high = part.height;
         for j in 0..high {
@@ -60,16 +56,14 @@ impl<P: Picture> Layer<P> {
 
     /// A part, cut until what a piece needs has room; or it says no, if there is a hole.
     pub(crate) fn tile(&mut self, whole: Rect, part: Rect, buffer: &mut [u64]) -> bool
-        requires sound { Sound P.Pixel.Kind.ops P.Picture.model P.Picture.sound self.old }
         requires part { Part whole part }
-        requires across { whole.left + whole.width ≤ (model_of P.Pixel.Kind.ops P.Picture.model self.old).shown.width }
-        requires down { whole.top + whole.height ≤ (model_of P.Pixel.Kind.ops P.Picture.model self.old).shown.height }
+        requires across { whole.left + whole.width ≤ (model_of P.Pixel.ops P.model self.old).shown.width }
+        requires down { whole.top + whole.height ≤ (model_of P.Pixel.ops P.model self.old).shown.height }
         requires room { area whole ≤ length buffer.old }
-        ensures laid { result ≡ true → Shows P.Pixel.Kind.ops (model_of P.Pixel.Kind.ops P.Picture.model self.old).shown whole part buffer.old buffer.new }
+        ensures laid { result ≡ true → Shows P.Pixel.ops (model_of P.Pixel.ops P.model self.old).shown whole part buffer.old buffer.new }
         ensures rest { drop (area whole) buffer.new ≡ drop (area whole) buffer.old }
-        ensures kept { Kept P.Pixel.Kind.ops P.Picture.model P.Picture.count self.old self.new }
-        ensures sound { Sound P.Pixel.Kind.ops P.Picture.model P.Picture.sound self.new }
-        ensures quiet { Needless (formula self.old.step self.old.size.width self.old.size.height) part → (result ≡ true) × (P.Picture.count self.new.below ≡ P.Picture.count self.old.below) }
+        ensures kept { Kept P.Pixel.ops P.model P.count self.old self.new }
+        ensures quiet { Needless (formula self.old.step self.old.size.width self.old.size.height) part → (result ≡ true) × (P.count self.new.below ≡ P.count self.old.below) }
     {
         match cut(self.step, self.size, part) {
             Cut::Whole => {

@@ -67,19 +67,17 @@ module _ {K S : Type 0} (o : Ops K S) where
   abbrev pub filled : Image K → Rect → List ℕ → List ℕ
   filled i r buffer = cond (inside i r && nat_le (area r) (length buffer)) (put (first_fault (nth i r) (area r)) (λ k. code_at (nth i r k)) (area r) buffer) buffer
 
-module _ {P K S : Type 0} (o : Ops K S) (model : P → Model K) (count : P → ℕ) (sound : P → Type 0) where
+module _ {P K S : Type 0} (o : Ops K S) (model : P → Model K) (count : P → ℕ) where
   -- a prepare of p, which is q behind it
   pub record Prepared (p : P) (r : Rect) (before : List ℕ) (a : Result Unit Refusal) (q : P) (after : List ℕ) : Type 0 where
     pub answers : outcome a ≡ answer (model p).shown r (length before)
     pub fills : after ≡ filled o (model p).shown r before
     pub counts : count q ≡ up (count p)
     pub keeps : model q ≡ model p
-    pub stays : sound q
 
-module _ {P K : Type 0} (model : P → Model K) (count : P → ℕ) (sound bare : P → Type 0) where
+module _ {P K : Type 0} (model : P → Model K) (count : P → ℕ) (bare : P → Type 0) where
   -- a forget of p, which is q behind it
   pub record Forgot (p q : P) : Type 0 where
     pub drops : bare q
     pub counts : count q ≡ count p
     pub keeps : model q ≡ model p
-    pub stays : sound q

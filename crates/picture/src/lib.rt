@@ -11,6 +11,7 @@ mod rows;
 mod size;
 mod sizes;
 mod step;
+mod words;
 
 pub use fault::{Cause, Fault, Refusal, Refused};
 pub use limits::LIMIT;

@@ -13,19 +13,16 @@ pub trait Rows {
 
     ghost view: { Self → Image Self.Pixel };
 
-    ghost ready: { Self → Type 0 };
     // the second differs from the first only in what asking for rows may change
     ghost same: { Self → Self → Type 0 };
 
     /// Fills `out` with the codes of a row from column `left` on, or tells the first hole's fault.
     fn row(&mut self, left: u32, row: u32, out: &mut [u64]) -> Result<(), Fault>
-        requires ready { ready self.old }
         requires across { left + length out.old ≤ (view self.old).width }
         requires down { row < (view self.old).height }
         ensures answer { result ≡ first_in (lined (view self.old) left row) (length out.old) }
-        ensures shown { result ≡ Ok tt → Shown Self.Pixel.Kind.ops (lined (view self.old) left row) (length out.old) out.new }
-        ensures same { same self.old self.new }
-        ensures ready { ready self.new };
+        ensures shown { result ≡ Ok tt → Shown Self.Pixel.ops (lined (view self.old) left row) (length out.old) out.new }
+        ensures same { same self.old self.new };
 
     ghost stays: { (p : Self) → same p p };
 
@@ -34,33 +31,19 @@ pub trait Rows {
     ghost shows: { (p q : Self) → same p q → view p ≡ view q };
 }
 
-fn clear(buffer: &mut [u64], n: usize)
-    requires { n ≤ length buffer.old }
-    ensures { buffer.new ≡ replicate n 0 ++ drop n buffer.old }
-{
-    for k in 0..n {
-        buffer[k] = 0;
-    }
-}
-
 fn fill<R: Rows>(rows: &mut R, rect: Rect, buffer: &mut [u64]) -> Result<(), Fault>
-    requires ready { R.Rows.ready rows.old }
-    requires across { rect.left + rect.width ≤ (R.Rows.view rows.old).width }
-    requires down { rect.top + rect.height ≤ (R.Rows.view rows.old).height }
+    requires across { rect.left + rect.width ≤ (R.view rows.old).width }
+    requires down { rect.top + rect.height ≤ (R.view rows.old).height }
     requires room { area rect ≤ length buffer.old }
-    ensures answer { result ≡ first_in (nth (R.Rows.view rows.old) rect) (area rect) }
-    ensures shown { result ≡ Ok tt → Shown R.Pixel.Kind.ops (nth (R.Rows.view rows.old) rect) (area rect) buffer.new }
+    ensures answer { result ≡ first_in (nth (R.view rows.old) rect) (area rect) }
+    ensures shown { result ≡ Ok tt → Shown R.Pixel.ops (nth (R.view rows.old) rect) (area rect) buffer.new }
     ensures rest { drop (area rect) buffer.new ≡ drop (area rect) buffer.old }
-    ensures same { R.Rows.same rows.old rows.new }
-    ensures ready { R.Rows.ready rows.new }
+    ensures same { R.same rows.old rows.new }
 {
     let wide = rect.width as usize;
     for j in 0..rect.height {
         let from = j as usize * wide;
-        match rows.row(rect.left, rect.top + j, &mut buffer[from..from + wide]) {
-            Ok(()) => {}
-            Err(fault) => return Err(fault),
-        }
+        rows.row(rect.left, rect.top + j, &mut buffer[from..from + wide])?;
     }
     Ok(())
 }
@@ -73,13 +56,11 @@ pub fn serve<R: Rows>(
     rect: Rect,
     buffer: &mut [u64],
 ) -> Result<(), Refusal>
-    requires ready { R.Rows.ready rows.old }
-    requires wide { wide ≡ (R.Rows.view rows.old).width }
-    requires high { high ≡ (R.Rows.view rows.old).height }
-    ensures answer { outcome result ≡ answer (R.Rows.view rows.old) rect (length buffer.old) }
-    ensures buffer { buffer.new ≡ filled R.Pixel.Kind.ops (R.Rows.view rows.old) rect buffer.old }
-    ensures same { R.Rows.same rows.old rows.new }
-    ensures ready { R.Rows.ready rows.new }
+    requires wide { wide ≡ (R.view rows.old).width }
+    requires high { high ≡ (R.view rows.old).height }
+    ensures answer { outcome result ≡ answer (R.view rows.old) rect (length buffer.old) }
+    ensures buffer { buffer.new ≡ filled R.Pixel.ops (R.view rows.old) rect buffer.old }
+    ensures same { R.same rows.old rows.new }
 {
     if rect.left + rect.width > wide || rect.top + rect.height > high {
         return Err(Refusal::NotInside);
@@ -91,7 +72,7 @@ pub fn serve<R: Rows>(
     match fill(rows, rect, buffer) {
         Ok(()) => Ok(()),
         Err(fault) => {
-            clear(buffer, n);
+            buffer[..n].fill(0);
             Err(Refusal::Hole(fault))
         }
     }

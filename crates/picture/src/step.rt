@@ -2,9 +2,10 @@ ghost use Rattle.std.specs.Prelude.{◌≡◌};
 ghost use Rattle.picture.specs.Steps.{ground_of};
 
 /// What an embedding shows beside the picture that it holds.
-#[derive(Clone, Copy, PartialEq, Eq, Debug)]
+#[derive(Clone, Copy, PartialEq, Eq, Debug, Default)]
 pub enum Ground {
     /// All samples 0.
+    #[default]
     Black,
     /// All samples maxval.
     White,
@@ -17,10 +18,7 @@ impl Ground {
     pub fn or_default(named: Option<Ground>) -> Ground
         ensures { result ≡ ground_of named }
     {
-        match named {
-            Some(ground) => ground,
-            None => Ground::Black,
-        }
+        named.unwrap_or_default()
     }
 }
 

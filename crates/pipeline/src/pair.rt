@@ -13,13 +13,11 @@ pub fn prepare_both<P: Picture, Q: Picture<Pixel = P::Pixel>>(
     a: &mut [u64],
     b: &mut [u64],
 ) -> (Result<(), Refusal>, Result<(), Refusal>)
-    requires first { P.Picture.sound first.old }
-    requires second { Q.Picture.sound second.old }
-    ensures first { Prepared P.Pixel.Kind.ops P.Picture.model P.Picture.count P.Picture.sound first.old rect a.old result.0 first.new a.new }
-    ensures second { Prepared P.Pixel.Kind.ops Q.Picture.model Q.Picture.count Q.Picture.sound second.old rect b.old result.1 second.new b.new }
-    ensures answered_first { Answers P.Pixel.Kind.ops P.Picture.model P.Picture.count P.Picture.sound P.Picture.bare first.old rect a.old result.0 a.new }
-    ensures answered_second { Answers P.Pixel.Kind.ops Q.Picture.model Q.Picture.count Q.Picture.sound Q.Picture.bare second.old rect b.old result.1 b.new }
-    ensures alike { Agree P.Pixel.Kind.ops P.Picture.model P.Picture.count P.Picture.sound P.Picture.bare Q.Picture.model Q.Picture.count Q.Picture.sound Q.Picture.bare first.old second.old rect a.old b.old result.0 result.1 a.new b.new }
+    ensures first { Prepared P.Pixel.ops P.model P.count first.old rect a.old result.0 first.new a.new }
+    ensures second { Prepared P.Pixel.ops Q.model Q.count second.old rect b.old result.1 second.new b.new }
+    ensures answered_first { Answers P.Pixel.ops P.model P.count P.bare first.old rect a.old result.0 a.new }
+    ensures answered_second { Answers P.Pixel.ops Q.model Q.count Q.bare second.old rect b.old result.1 b.new }
+    ensures alike { Agree P.Pixel.ops P.model P.count P.bare Q.model Q.count Q.bare first.old second.old rect a.old b.old result.0 result.1 a.new b.new }
 {
     let one = prepare(first, rect, a);
     let two = prepare(second, rect, b);

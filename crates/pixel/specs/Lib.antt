@@ -4,3 +4,4 @@ pub mod Kinds
 pub mod Sampling
 pub mod Sums
 pub mod ColourKindLemmas
+pub mod Widths

@@ -7,7 +7,9 @@ mod grey;
 mod kind;
 mod pixels;
 mod scaling;
+mod widths;
 
 pub use colour::ColourSum;
 pub use kind::Kind;
 pub use pixels::{Colour, Grey};
+pub use widths::pixel_bytes;

@@ -15,9 +15,9 @@ use store::Store;
 
 /// Opens the picture that a store has, as the source of this number, or hands the store back.
 pub fn open<S: Store, K: Kind>(store: S, number: u32) -> Result<FileSource<S, K>, Refused<S>>
-    ensures value { Opened K.Kind.ops.mark (available (capped (S.Store.at store)) 0 header_limit) store number result }
-    ensures written { ReadsBack K.Kind.ops S.Store.at store number result }
-    ensures again { WrittenAgain K.Kind.ops S.Store.at store result }
+    ensures value { Opened K.ops.mark (available (capped (S.at store)) 0 header_limit) store number result }
+    ensures written { ReadsBack K.ops S.at store number result }
+    ensures again { WrittenAgain K.ops S.at store result }
 {
     FileSource::<S, K>::open(store, number)
 }

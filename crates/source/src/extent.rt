@@ -19,8 +19,8 @@ impl<S: Store, K: Kind> FileSource<S, K> {
 
     /// How many pixels in reading order have their first byte before place `end` of the store. If the store has no byte from there on, all later places are holes.
     pub fn pixels_before(&self, end: u64) -> u64
-        ensures value { result ≡ reached self.now.raster.start end (pixel_bytes K.Kind.ops self.now.raster.size.maxval) }
-        ensures law { Silent (capped (S.Store.at self.now.store)) end → LostBehind K.Kind.ops (capped (S.Store.at self.now.store)) self.now.raster result }
+        ensures value { result ≡ reached self.now.raster.start end (pixel_bytes K.ops self.now.raster.size.maxval) }
+        ensures law { Silent (capped (S.at self.now.store)) end → LostBehind K.ops (capped (S.at self.now.store)) self.now.raster result }
     {
         let start = self.raster.start;
         let step = pixel_bytes::<K>(self.raster.size.maxval >= 256) as u64;

@@ -49,7 +49,7 @@ fn cause_of(lack: Lack) -> Cause
 fn read_pixels<S: Store>(store: &S, place: u64, step: usize, count: usize, block: &mut [u8]) -> Load
     requires some { 1 ≤ step }
     requires room { count * step ≤ length block.old }
-    ensures { Loaded (capped (S.Store.at store.now)) place step count block.new result.pixels result.lack }
+    ensures { Loaded (capped (S.at store.now)) place step count block.new result.pixels result.lack }
 {
     match store.read(place, &mut block[0..count * step]) {
         Ok(()) => Load {
@@ -73,8 +73,8 @@ impl<S: Store, K: Kind> FileSource<S, K> {
         requires across { left + length out.old ≤ self.old.raster.size.width }
         requires down { row < self.old.raster.size.height }
         requires short { length out.old ≤ 1024 }
-        ensures answer { result ≡ first_in (lined (raster_image K.Kind.ops (capped (S.Store.at self.old.store)) self.old.raster) left row) (length out.old) }
-        ensures shown { result ≡ Ok tt → Shown K.Kind.ops (lined (raster_image K.Kind.ops (capped (S.Store.at self.old.store)) self.old.raster) left row) (length out.old) out.new }
+        ensures answer { result ≡ first_in (lined (raster_image K.ops (capped (S.at self.old.store)) self.old.raster) left row) (length out.old) }
+        ensures shown { result ≡ Ok tt → Shown K.ops (lined (raster_image K.ops (capped (S.at self.old.store)) self.old.raster) left row) (length out.old) out.new }
         ensures store { self.new.store ≡ self.old.store }
         ensures raster { self.new.raster ≡ self.old.raster }
         ensures count { self.new.count ≡ self.old.count }
@@ -118,7 +118,7 @@ impl<S: Store, K: Kind> FileSource<S, K> {
 impl<S: Store, K: Kind> Rows for FileSource<S, K> {
     type Pixel = K;
 
-    ghost view = { λ s. raster_image K.Kind.ops (capped (S.Store.at s.store)) s.raster };
+    ghost view = { λ s. raster_image K.ops (capped (S.at s.store)) s.raster };
 
     ghost ready = { λ _. Unit {0} };
 
@@ -146,7 +146,7 @@ impl<S: Store, K: Kind> Rows for FileSource<S, K> {
 impl<S: Store, K: Kind> Picture for FileSource<S, K> {
     type Pixel = K;
 
-    ghost model = { λ s. sourced (raster_image K.Kind.ops (capped (S.Store.at s.store)) s.raster) };
+    ghost model = { λ s. sourced (raster_image K.ops (capped (S.at s.store)) s.raster) };
 
     ghost count = { λ s. s.count };
 
@@ -157,8 +157,8 @@ impl<S: Store, K: Kind> Picture for FileSource<S, K> {
     ghost sized = { Prim.search rules };
 
     ghost bounded = { λ p h u v a b.
-        let laws : Lawful K.Kind.ops = record { coded = K.Kind.coded; sampled = K.Kind.sampled } in
-        raster_bounded K.Kind.ops (capped (S.Store.at p.store)) p.raster laws u v };
+        let laws : Lawful K.ops = record { coded = K.coded; sampled = K.sampled } in
+        raster_bounded K.ops (capped (S.at p.store)) p.raster laws u v };
 
     ghost composed = { Prim.search rules };
 

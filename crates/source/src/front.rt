@@ -10,8 +10,8 @@ use store::Store;
 
 /// Reads the bytes that the store begins with, up to the buffer's length, and says how many there are.
 fn front<S: Store>(store: &S, buffer: &mut [u8]) -> usize
-    ensures count { result ≡ length (available (capped (S.Store.at store.now)) 0 (length buffer.old)) }
-    ensures bytes { take result buffer.new ≡ available (capped (S.Store.at store.now)) 0 (length buffer.old) }
+    ensures count { result ≡ length (available (capped (S.at store.now)) 0 (length buffer.old)) }
+    ensures bytes { take result buffer.new ≡ available (capped (S.at store.now)) 0 (length buffer.old) }
     ensures within { result ≤ length buffer.old }
 {
     match store.read(0, buffer) {
@@ -26,10 +26,10 @@ fn front<S: Store>(store: &S, buffer: &mut [u8]) -> usize
 
 /// The header that a store begins with, whose mark is `P` and then `mark`.
 pub fn read_header<S: Store>(store: &S, mark: u8) -> Result<Header, HeaderError>
-    ensures automaton { result ≡ header_of mark (available (capped (S.Store.at store.now)) 0 header_limit) }
-    ensures grammar { Exact mark (available (capped (S.Store.at store.now)) 0 header_limit) result }
-    ensures refused { Refuses mark (available (capped (S.Store.at store.now)) 0 header_limit) result }
-    ensures ended { EndsAtLack (capped (S.Store.at store.now)) result }
+    ensures automaton { result ≡ header_of mark (available (capped (S.at store.now)) 0 header_limit) }
+    ensures grammar { Exact mark (available (capped (S.at store.now)) 0 header_limit) result }
+    ensures refused { Refuses mark (available (capped (S.at store.now)) 0 header_limit) result }
+    ensures ended { EndsAtLack (capped (S.at store.now)) result }
 {
     let mut buffer = [0u8; HEADER_LIMIT];
     let n = front(store, &mut buffer);

@@ -55,7 +55,7 @@ pub struct MemorySource<C, K> {
 
 /// Whether a code is a pixel with no sample above maxval.
 fn is_pixel<K: Kind>(code: u64, maxval: u16) -> bool
-    ensures { result ≡ acceptable K.Kind.ops maxval code }
+    ensures { result ≡ acceptable K.ops maxval code }
 {
     let Some(pixel) = K::decode(code) else {
         return false;
@@ -77,7 +77,7 @@ impl<C: Codes, K: Kind> MemorySource<C, K> {
         maxval: u32,
         number: u32,
     ) -> Result<MemorySource<C, K>, Refused<C>>
-        ensures { MemoryMade K.Kind.ops C.Codes.codes codes width height maxval number result }
+        ensures { MemoryMade K.ops C.codes codes width height maxval number result }
     {
         let Ok(size) = Size::new(width, height, maxval) else {
             return Err(Refused {
@@ -104,7 +104,7 @@ impl<C: Codes, K: Kind> MemorySource<C, K> {
 impl<C: Codes, K: Kind> Rows for MemorySource<C, K> {
     type Pixel = K;
 
-    ghost view = { λ s. memory_image K.Kind.ops (C.Codes.codes s.codes) s.size s.source };
+    ghost view = { λ s. memory_image K.ops (C.codes s.codes) s.size s.source };
 
     ghost ready = { λ _. Unit {0} };
 
@@ -137,7 +137,7 @@ impl<C: Codes, K: Kind> Rows for MemorySource<C, K> {
 impl<C: Codes, K: Kind> Picture for MemorySource<C, K> {
     type Pixel = K;
 
-    ghost model = { λ s. sourced (memory_image K.Kind.ops (C.Codes.codes s.codes) s.size s.source) };
+    ghost model = { λ s. sourced (memory_image K.ops (C.codes s.codes) s.size s.source) };
 
     ghost count = { λ s. s.count };
 
@@ -147,7 +147,7 @@ impl<C: Codes, K: Kind> Picture for MemorySource<C, K> {
 
     ghost sized = { Prim.search rules };
 
-    ghost bounded = { λ p h u v a b. dim_remembered K.Kind.ops p.size.maxval _ _ };
+    ghost bounded = { λ p h u v a b. dim_remembered K.ops p.size.maxval _ _ };
 
     ghost composed = { Prim.search rules };
 

@@ -16,8 +16,8 @@ use store::Store;
 impl<S: Store, K: Kind> FileSource<S, K> {
     /// Opens the picture that a store has, as the source of this number, or hands the store back.
     pub fn open(store: S, number: u32) -> Result<FileSource<S, K>, Refused<S>>
-        ensures value { Opened K.Kind.ops.mark (available (capped (S.Store.at store)) 0 header_limit) store number result }
-        ensures law { Opens K.Kind.ops.mark (available (capped (S.Store.at store)) 0 header_limit) number result }
+        ensures value { Opened K.ops.mark (available (capped (S.at store)) 0 header_limit) store number result }
+        ensures law { Opens K.ops.mark (available (capped (S.at store)) 0 header_limit) number result }
     {
         if number > 255 {
             return Err(Refused {

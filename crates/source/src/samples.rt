@@ -6,7 +6,7 @@ use pixel::Kind;
 
 /// How many bytes a pixel has.
 pub fn pixel_bytes<K: Kind>(wide: bool) -> usize
-    ensures value { result ≡ K.Kind.ops.depth * sample_bytes wide }
+    ensures value { result ≡ K.ops.depth * sample_bytes wide }
     ensures some { 1 ≤ result }
     ensures few { result ≤ 6 }
 {
@@ -28,8 +28,8 @@ fn sample(bytes: &[u8], start: usize, index: usize, wide: bool) -> u16
 
 /// The code of the pixel whose bytes begin at `start`, or none where a sample is above maxval.
 fn pixel_code<K: Kind>(bytes: &[u8], start: usize, wide: bool, maxval: u16) -> Option<u64>
-    requires { start + K.Kind.ops.depth * sample_bytes wide ≤ length bytes.now }
-    ensures { result ≡ code_of K.Kind.ops wide maxval (from bytes.now start) }
+    requires { start + K.ops.depth * sample_bytes wide ≤ length bytes.now }
+    ensures { result ≡ code_of K.ops wide maxval (from bytes.now start) }
 {
     let mut code = 0u64;
     for k in 0..K::depth() {
@@ -44,8 +44,8 @@ fn pixel_code<K: Kind>(bytes: &[u8], start: usize, wide: bool, maxval: u16) -> O
 
 /// Takes pixel after pixel from their bytes, up to the first with a sample above maxval, and says how many.
 pub fn decode<K: Kind>(bytes: &[u8], wide: bool, maxval: u16, out: &mut [u64]) -> usize
-    requires { length out.old * (K.Kind.ops.depth * sample_bytes wide) ≤ length bytes.now }
-    ensures { Decoded K.Kind.ops wide maxval bytes.now (length out.old) result out.new }
+    requires { length out.old * (K.ops.depth * sample_bytes wide) ≤ length bytes.now }
+    ensures { Decoded K.ops wide maxval bytes.now (length out.old) result out.new }
 {
     let step = pixel_bytes::<K>(wide);
     for k in 0..out.len() {

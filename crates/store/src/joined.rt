@@ -16,7 +16,7 @@ pub struct Joined<A, B> {
 }
 
 impl<A: Store, B: Store> Store for Joined<A, B> {
-    ghost at = { λ s. in_joined (capped (A.Store.at s.first)) s.from (capped (B.Store.at s.second)) };
+    ghost at = { λ s. in_joined (capped (A.at s.first)) s.from (capped (B.at s.second)) };
 
     fn check(&self, place: u64, count: usize) -> Result<(), Lack> {
         // Of the places, `inside` are below the end of all stores, and `low` of these are the first's.

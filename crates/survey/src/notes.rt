@@ -52,7 +52,7 @@ fn widen(range: Option<Range>, sample: u16) -> Option<Range>
 
 /// A range with the samples of one more pixel.
 fn widen_all<K: Kind>(mut range: Option<Range>, pixel: K) -> Option<Range>
-    ensures { result ≡ widened range (K.Kind.ops.samples pixel) }
+    ensures { result ≡ widened range (K.ops.samples pixel) }
 {
     for i in 0..K::depth() {
         range = widen(range, pixel.sample(i));
@@ -63,7 +63,7 @@ fn widen_all<K: Kind>(mut range: Option<Range>, pixel: K) -> Option<Range>
 /// A survey with one more pixel.
 fn note_pixel<K: Kind>(survey: Survey, pixel: K) -> Survey
     requires { seen survey < 2 ^ 63 }
-    ensures { result ≡ shown (K.Kind.ops.samples pixel) survey }
+    ensures { result ≡ shown (K.ops.samples pixel) survey }
 {
     Survey {
         pixels: survey.pixels + 1,
@@ -75,8 +75,8 @@ fn note_pixel<K: Kind>(survey: Survey, pixel: K) -> Survey
 /// A survey with the pixels of these codes.
 pub fn note_pixels<K: Kind>(mut survey: Survey, codes: &[u64]) -> Survey
     requires room { seen survey + length codes.now ≤ 2 ^ 63 }
-    requires codes { (k : ℕ) → k < length codes.now → is_some (K.Kind.ops.decode (slice_index codes.now k)) ≡ true }
-    ensures { (f : ℕ → Place K) → Shown K.Kind.ops f (length codes.now) codes.now → result ≡ onward K.Kind.ops survey f (length codes.now) }
+    requires codes { (k : ℕ) → k < length codes.now → is_some (K.ops.decode (slice_index codes.now k)) ≡ true }
+    ensures { (f : ℕ → Place K) → Shown K.ops f (length codes.now) codes.now → result ≡ onward K.ops survey f (length codes.now) }
 {
     for k in 0..codes.len() {
         let pixel = K::decode(codes[k]).unwrap();

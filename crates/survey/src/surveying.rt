@@ -36,16 +36,14 @@ fn look<P: Picture>(
     width: u32,
     buffer: &mut [u64],
 ) -> Result<(), Fault>
-    requires sound { P.Picture.sound picture.old }
     requires wide { 1 ≤ width }
-    requires across { left + width ≤ (P.Picture.model picture.old).shown.width }
-    requires down { top < (P.Picture.model picture.old).shown.height }
+    requires across { left + width ≤ (P.model picture.old).shown.width }
+    requires down { top < (P.model picture.old).shown.height }
     requires room { width ≤ length buffer.old }
-    ensures answer { result ≡ first_in (lined (P.Picture.model picture.old).shown left top) width }
-    ensures codes { result ≡ Ok tt → Shown P.Pixel.Kind.ops (lined (P.Picture.model picture.old).shown left top) width buffer.new }
-    ensures kept { P.Picture.model picture.new ≡ P.Picture.model picture.old }
-    ensures quick { P.Picture.count picture.new ≤ P.Picture.count picture.old + 1 }
-    ensures sound { P.Picture.sound picture.new }
+    ensures answer { result ≡ first_in (lined (P.model picture.old).shown left top) width }
+    ensures codes { result ≡ Ok tt → Shown P.Pixel.ops (lined (P.model picture.old).shown left top) width buffer.new }
+    ensures kept { P.model picture.new ≡ P.model picture.old }
+    ensures quick { P.count picture.new ≤ P.count picture.old + 1 }
 {
     match picture.prepare(part(left, top, width), buffer) {
         Ok(()) => Ok(()),
@@ -73,12 +71,10 @@ fn stretch(run: usize, place: u64, wide: u32, count: u64) -> u32
 /// Surveys the first `places` places of a picture in reading order, or all of them if there are fewer.
 /// It makes at most two prepares for each place, and twelve more.
 pub fn survey<P: Picture>(picture: &mut P, places: u64) -> Survey
-    requires { P.Picture.sound picture.old }
-    ensures value { result ≡ surveyed P.Pixel.Kind.ops (P.Picture.model picture.old).shown (up_to (P.Picture.model picture.old).shown places) }
-    ensures law { Account P.Pixel.Kind.ops (reading (P.Picture.model picture.old).shown) (up_to (P.Picture.model picture.old).shown places) result }
-    ensures kept { P.Picture.model picture.new ≡ P.Picture.model picture.old }
-    ensures quick { P.Picture.count picture.new ≤ P.Picture.count picture.old + 2 * up_to (P.Picture.model picture.old).shown places + 12 }
-    ensures sound { P.Picture.sound picture.new }
+    ensures value { result ≡ surveyed P.Pixel.ops (P.model picture.old).shown (up_to (P.model picture.old).shown places) }
+    ensures law { Account P.Pixel.ops (reading (P.model picture.old).shown) (up_to (P.model picture.old).shown places) result }
+    ensures kept { P.model picture.new ≡ P.model picture.old }
+    ensures quick { P.count picture.new ≤ P.count picture.old + 2 * up_to (P.model picture.old).shown places + 12 }
 {
     let size = picture.size();
     let wide = size.width as u64;

@@ -8,7 +8,7 @@ use pixel::Kind;
 
 /// How many bytes a pixel has.
 pub(crate) fn pixel_bytes<K: Kind>(maxval: u16) -> usize
-    ensures value { result ≡ pixel_width K.Kind.ops maxval }
+    ensures value { result ≡ pixel_width K.ops maxval }
     ensures few { result ≤ 6 }
 {
     if maxval < 256 {
@@ -37,10 +37,10 @@ fn put_sample(out: &mut [u8], p: usize, sample: u16, maxval: u16) -> usize
 
 /// Writes the samples of a pixel in their order.
 fn put_pixel<K: Kind>(out: &mut [u8], p: usize, pixel: K, maxval: u16) -> usize
-    requires room { p + pixel_width K.Kind.ops maxval ≤ length out.old }
-    requires under { Under maxval (K.Kind.ops.samples pixel) }
-    ensures end { result ≡ p + pixel_width K.Kind.ops maxval }
-    ensures out { out.new ≡ pasted out.old p (pixel_bytes K.Kind.ops maxval pixel) }
+    requires room { p + pixel_width K.ops maxval ≤ length out.old }
+    requires under { Under maxval (K.ops.samples pixel) }
+    ensures end { result ≡ p + pixel_width K.ops maxval }
+    ensures out { out.new ≡ pasted out.old p (pixel_bytes K.ops maxval pixel) }
 {
     let mut at = p;
     for k in 0..K::depth() {
@@ -51,10 +51,10 @@ fn put_pixel<K: Kind>(out: &mut [u8], p: usize, pixel: K, maxval: u16) -> usize
 
 /// Writes the pixels of codes.
 pub(crate) fn put_codes<K: Kind>(out: &mut [u8], p: usize, codes: &[u64], maxval: u16) -> usize
-    requires room { p + length codes.now * pixel_width K.Kind.ops maxval ≤ length out.old }
-    requires known { (k : ℕ) → k < length codes.now → Known K.Kind.ops maxval (K.Kind.ops.decode (slice_index codes.now k)) }
-    ensures end { result ≡ p + length codes.now * pixel_width K.Kind.ops maxval }
-    ensures out { out.new ≡ pasted out.old p (flat_map (code_bytes K.Kind.ops maxval) codes.now) }
+    requires room { p + length codes.now * pixel_width K.ops maxval ≤ length out.old }
+    requires known { (k : ℕ) → k < length codes.now → Known K.ops maxval (K.ops.decode (slice_index codes.now k)) }
+    ensures end { result ≡ p + length codes.now * pixel_width K.ops maxval }
+    ensures out { out.new ≡ pasted out.old p (flat_map (code_bytes K.ops maxval) codes.now) }
 {
     let mut at = p;
     for k in 0..codes.len() {
@@ -73,10 +73,10 @@ pub(crate) fn put_same<K: Kind>(
     count: usize,
     maxval: u16,
 ) -> usize
-    requires room { p + count * pixel_width K.Kind.ops maxval ≤ length out.old }
-    requires under { Under maxval (K.Kind.ops.samples pixel) }
-    ensures end { result ≡ p + count * pixel_width K.Kind.ops maxval }
-    ensures out { out.new ≡ pasted out.old p (repeated (pixel_bytes K.Kind.ops maxval pixel) count) }
+    requires room { p + count * pixel_width K.ops maxval ≤ length out.old }
+    requires under { Under maxval (K.ops.samples pixel) }
+    ensures end { result ≡ p + count * pixel_width K.ops maxval }
+    ensures out { out.new ≡ pasted out.old p (repeated (pixel_bytes K.ops maxval pixel) count) }
 {
     let mut at = p;
     for _k in 0..count {
@@ -95,11 +95,11 @@ fn put_row<K: Kind>(
     maxval: u16,
 ) -> usize
     requires within { length codes.now ≤ side }
-    requires room { p + side * pixel_width K.Kind.ops maxval ≤ length out.old }
-    requires known { (k : ℕ) → k < length codes.now → Known K.Kind.ops maxval (K.Kind.ops.decode (slice_index codes.now k)) }
-    requires under { Under maxval (K.Kind.ops.samples pad) }
-    ensures end { result ≡ p + side * pixel_width K.Kind.ops maxval }
-    ensures out { out.new ≡ pasted out.old p (row_bytes K.Kind.ops maxval pad side codes.now) }
+    requires room { p + side * pixel_width K.ops maxval ≤ length out.old }
+    requires known { (k : ℕ) → k < length codes.now → Known K.ops maxval (K.ops.decode (slice_index codes.now k)) }
+    requires under { Under maxval (K.ops.samples pad) }
+    ensures end { result ≡ p + side * pixel_width K.ops maxval }
+    ensures out { out.new ≡ pasted out.old p (row_bytes K.ops maxval pad side codes.now) }
 {
     let at = put_codes::<K>(out, p, codes, maxval);
     put_same(out, at, pad, side - codes.len(), maxval)
@@ -118,11 +118,11 @@ pub(crate) fn put_rows<K: Kind>(
 ) -> usize
     requires codes { high * wide ≤ length codes.now }
     requires within { wide ≤ side }
-    requires room { p + high * (side * pixel_width K.Kind.ops maxval) ≤ length out.old }
-    requires known { (k : ℕ) → k < high * wide → Known K.Kind.ops maxval (K.Kind.ops.decode (slice_index codes.now k)) }
-    requires under { Under maxval (K.Kind.ops.samples pad) }
-    ensures end { result ≡ p + high * (side * pixel_width K.Kind.ops maxval) }
-    ensures out { out.new ≡ pasted out.old p (rows_bytes K.Kind.ops maxval pad side wide codes.now high) }
+    requires room { p + high * (side * pixel_width K.ops maxval) ≤ length out.old }
+    requires known { (k : ℕ) → k < high * wide → Known K.ops maxval (K.ops.decode (slice_index codes.now k)) }
+    requires under { Under maxval (K.ops.samples pad) }
+    ensures end { result ≡ p + high * (side * pixel_width K.ops maxval) }
+    ensures out { out.new ≡ pasted out.old p (rows_bytes K.ops maxval pad side wide codes.now high) }
 {
     let mut at = p;
     for j in 0..high {

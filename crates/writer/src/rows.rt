@@ -10,9 +10,8 @@ use pixel::Kind;
 
 /// Writes the header of the picture's file at the start of the buffer; answers how many bytes it has, and the writer of the rows.
 pub fn begin<P: Picture>(picture: &P, out: &mut [u8]) -> Result<(usize, RowWriter), Refusal>
-    requires { P.Picture.sound picture.now }
-    ensures begun { Begun P.Pixel.Kind.ops (P.Picture.model picture.now).shown out.old result out.new }
-    ensures whole { IfOk result (λ x. Joined P.Pixel.Kind.ops P.Picture.model P.Picture.count P.Picture.sound P.Picture.bare picture.now (take x.0 out.new) x.1) }
+    ensures begun { Begun P.Pixel.ops (P.model picture.now).shown out.old result out.new }
+    ensures whole { IfOk result (λ x. Joined P.Pixel.ops P.model P.count P.bare picture.now (take x.0 out.new) x.1) }
 {
     let size = picture.size();
     if out.len() < header_bytes(size.width, size.height, size.maxval) {
@@ -33,8 +32,7 @@ pub fn begin<P: Picture>(picture: &P, out: &mut [u8]) -> Result<(usize, RowWrite
 impl RowWriter {
     /// Whether it was begun for a picture of this size, maxval and kind.
     fn serves<P: Picture>(&self, picture: &P) -> bool
-        requires { P.Picture.sound picture.now }
-        ensures { result ≡ fits P.Pixel.Kind.ops (P.Picture.model picture.now).shown self.now }
+        ensures { result ≡ fits P.Pixel.ops (P.model picture.now).shown self.now }
     {
         let size = picture.size();
         let mark = <P::Pixel as Kind>::mark();
@@ -67,8 +65,7 @@ impl RowWriter {
         work: &mut [u64],
         out: &mut [u8],
     ) -> Result<usize, Refusal>
-        requires { P.Picture.sound picture.old }
-        ensures { Strip P.Pixel.Kind.ops P.Picture.model P.Picture.count P.Picture.sound picture.old height self.old work.old out.old result picture.new self.new work.new out.new }
+        ensures { Strip P.Pixel.ops P.model P.count picture.old height self.old work.old out.old result picture.new self.new work.new out.new }
     {
         if !self.serves(picture) {
             return Err(Refusal::OtherWriter);

@@ -24,8 +24,8 @@ fn default_ground() -> Ground
 
 /// The pixel that an embedding shows beside the picture that it holds, if it names no ground.
 fn padding<K: Kind>(maxval: u16) -> K
-    ensures shown { (at : ℕ → ℕ → Place K) (W H : ℕ) (x y : ℤ) → taken K.Kind.ops maxval at (grounded (ground_of None) W H x y) ≡ pixel result }
-    ensures under { Under maxval (K.Kind.ops.samples result) }
+    ensures shown { (at : ℕ → ℕ → Place K) (W H : ℕ) (x y : ℤ) → taken K.ops maxval at (grounded (ground_of None) W H x y) ≡ pixel result }
+    ensures under { Under maxval (K.ops.samples result) }
 {
     match default_ground() {
         Ground::Black => K::black(),
@@ -68,11 +68,11 @@ fn put_square<K: Kind>(
     requires across { wide ≤ side }
     requires down { high ≤ side }
     requires small { side ≤ 256 }
-    requires room { p + side * side * pixel_width K.Kind.ops maxval ≤ length out.old }
-    requires known { (k : ℕ) → k < high * wide → Known K.Kind.ops maxval (K.Kind.ops.decode (slice_index codes.now k)) }
-    requires under { Under maxval (K.Kind.ops.samples pad) }
-    ensures end { result ≡ p + side * side * pixel_width K.Kind.ops maxval }
-    ensures out { out.new ≡ pasted out.old p (square_bytes K.Kind.ops maxval pad side wide high codes.now) }
+    requires room { p + side * side * pixel_width K.ops maxval ≤ length out.old }
+    requires known { (k : ℕ) → k < high * wide → Known K.ops maxval (K.ops.decode (slice_index codes.now k)) }
+    requires under { Under maxval (K.ops.samples pad) }
+    ensures end { result ≡ p + side * side * pixel_width K.ops maxval }
+    ensures out { out.new ≡ pasted out.old p (square_bytes K.ops maxval pad side wide high codes.now) }
 {
     let at = put_rows(out, p, codes, wide, high, side, pad, maxval);
     put_same(out, at, pad, (side - high) * side, maxval)
@@ -87,8 +87,7 @@ pub fn write_tile<P: Picture>(
     work: &mut [u64],
     out: &mut [u8],
 ) -> Result<usize, Refusal>
-    requires { P.Picture.sound picture.old }
-    ensures { Tiled P.Pixel.Kind.ops P.Picture.model P.Picture.count P.Picture.sound picture.old column row side work.old out.old result picture.new work.new out.new }
+    ensures { Tiled P.Pixel.ops P.model P.count picture.old column row side work.old out.old result picture.new work.new out.new }
 {
     let size = picture.size();
     let part = match visible(size, column, row, side) {

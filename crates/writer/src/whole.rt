@@ -22,16 +22,14 @@ fn put_strips<P: Picture>(
     out: &mut [u8],
     head: usize,
 ) -> Result<usize, Refusal>
-    requires sound { P.Picture.sound picture.old }
-    requires fits { fits P.Pixel.Kind.ops (P.Picture.model picture.old).shown writer ≡ true }
+    requires fits { fits P.Pixel.ops (P.model picture.old).shown writer ≡ true }
     requires begun { writer.next ≡ 0 }
     requires some { 1 ≤ height }
-    requires codes { (P.Picture.model picture.old).shown.width * min height (P.Picture.model picture.old).shown.height ≤ length work.old }
-    requires room { head + (P.Picture.model picture.old).shown.width * (P.Picture.model picture.old).shown.height * pixel_width P.Pixel.Kind.ops (P.Picture.model picture.old).shown.maxval ≤ length out.old }
-    ensures answers { outcome_of result ≡ end_outcome (ending None (first_fault (place_of (P.Picture.model picture.old).shown) ((P.Picture.model picture.old).shown.width * (P.Picture.model picture.old).shown.height))) }
-    ensures writes { outcome_of result ≡ done → (out.new ≡ pasted out.old head (raster P.Pixel.Kind.ops (P.Picture.model picture.old).shown)) × (amount result ≡ head + length (raster P.Pixel.Kind.ops (P.Picture.model picture.old).shown)) }
-    ensures keeps { P.Picture.model picture.new ≡ P.Picture.model picture.old }
-    ensures stays { P.Picture.sound picture.new }
+    requires codes { (P.model picture.old).shown.width * min height (P.model picture.old).shown.height ≤ length work.old }
+    requires room { head + (P.model picture.old).shown.width * (P.model picture.old).shown.height * pixel_width P.Pixel.ops (P.model picture.old).shown.maxval ≤ length out.old }
+    ensures answers { outcome_of result ≡ end_outcome (ending None (first_fault (place_of (P.model picture.old).shown) ((P.model picture.old).shown.width * (P.model picture.old).shown.height))) }
+    ensures writes { outcome_of result ≡ done → (out.new ≡ pasted out.old head (raster P.Pixel.ops (P.model picture.old).shown)) × (amount result ≡ head + length (raster P.Pixel.ops (P.model picture.old).shown)) }
+    ensures keeps { P.model picture.new ≡ P.model picture.old }
 {
     let mut end = head;
     while writer.next < writer.size.height {
@@ -59,8 +57,7 @@ pub fn write_file<P: Picture>(
     work: &mut [u64],
     out: &mut [u8],
 ) -> Result<usize, Refusal>
-    requires { P.Picture.sound picture.old }
-    ensures { Filed P.Pixel.Kind.ops P.Picture.model P.Picture.count P.Picture.sound picture.old height work.old out.old result picture.new work.new out.new }
+    ensures { Filed P.Pixel.ops P.model P.count picture.old height work.old out.old result picture.new work.new out.new }
 {
     let size = picture.size();
     if height == 0 {

@@ -7,4 +7,3 @@ invariant-loop-j g l =
     Shown g.R.Pixel.Kind.ops (nth (g.R.Rows.view l.initial.rows) l.rect) (l.j * l.rect.width) l.buffer
     × (drop (area l.rect) l.buffer ≡ drop (area l.rect) l.initial.buffer)
     × g.R.Rows.same l.initial.rows l.rows
-    × g.R.Rows.ready l.rows

@@ -1,4 +1,5 @@
-use Rattle.std.proofs.Common.{◌+◌, ◌≤◌, ◌++◌, length, drop, replicate, sym, refl, ap, ◌∙◌, arith}
+use Rattle.std.proofs.Common.{◌≡◌, ◌+◌, ◌≤◌, ◌++◌, length, take, drop, replicate, sym, refl, ap, ◌∙◌, arith, rules}
+use Rattle.std.proofs.lemmas.List.{length-take-le}
 use Rattle.picture.specs.Places.{first_fault}
 use Rattle.picture.specs.Prepare.{area, holed, nth}
 use Rattle.picture.proofs.Faults.{fault_of_err, none_of_ok}
@@ -19,7 +20,6 @@ returns-in-Ok g c =
       buffer = whole o (nth i r) (area r) c.args.buffer.now c.fill.new.buffer (omega (arith, c.fill.auto.buffer)) (c.in-Ok.ensures.shown refl) c.in-Ok.ensures.rest
           ∙ sym (filled_is o i r c.args.buffer.now x y n);
       same = c.fill.ensures.same;
-      ready = c.fill.ensures.ready;
     }
 
 pub returns-in-Err : goal.returns-in-Err
@@ -31,11 +31,12 @@ returns-in-Err g c =
     let y : r.top + r.height ≤ i.height = omega arith in
     let n : area r ≤ length c.args.buffer.now = omega arith in
     let f = fault_of_err (first_fault (nth i r) (area r)) c.in-Err.fault c.in-Err.ensures.answer in
+    let m : length (take c.area-n.result c.fill.new.buffer) ≡ area r = length-take-le c.area-n.result c.fill.new.buffer (omega (arith, c.fill.auto.buffer, c.area-n.ensures)) ∙ c.area-n.ensures in
+    let zeros : c.fill-in-Err.new.self ≡ replicate (area r) 0 = c.fill-in-Err.ensures.after (λ y h. search rules) ∙ ap (λ k. replicate k 0) m in
     record {
       answer = sym (answer_is i r (length c.args.buffer.now) x y n ∙ ap holed f);
-      buffer = c.clear.ensures ∙ ap (λ k. replicate k 0 ++ drop k c.fill.new.buffer) c.area-n.ensures
+      buffer = ap (λ x. x ++ drop c.area-n.result c.fill.new.buffer) zeros ∙ ap (λ k. replicate (area r) 0 ++ drop k c.fill.new.buffer) c.area-n.ensures
           ∙ cleared o (nth i r) (area r) c.in-Err.fault c.args.buffer.now c.fill.new.buffer f c.in-Err.ensures.rest
           ∙ sym (filled_is o i r c.args.buffer.now x y n);
       same = c.fill.ensures.same;
-      ready = c.fill.ensures.ready;
     }
