@@ -1,9 +1,9 @@
 use crate::words::{Command, Drag};
 use picture::{Picture, Rect, Refusal};
-use std::alloc::AllocError;
+use pixel::Kind;
 
 /// What came of a run.
-#[derive(Clone, Copy)]
+#[derive(Clone, Copy, Default)]
 pub struct Sum {
     pub answered: u32,
     pub outside: u32,
@@ -12,20 +12,12 @@ pub struct Sum {
 }
 
 impl Sum {
-    pub fn new() -> Sum {
-        Sum {
-            answered: 0,
-            outside: 0,
-            holes: 0,
-            digest: 0,
-        }
-    }
-
     fn take(&mut self, number: u64) {
         self.digest = self.digest.wrapping_mul(1_099_511_628_211) ^ number;
     }
 
-    fn take_all(&mut self, codes: &[u64]) {
+    fn answer(&mut self, codes: &[u64]) {
+        self.answered = self.answered.saturating_add(1);
         for code in codes {
             self.take(*code);
         }
@@ -48,47 +40,40 @@ impl Sum {
     }
 }
 
+/// The rectangle of a drag's turn, prepared: how many entries of the buffer it filled.
+fn prepared<P: Picture>(
+    picture: &mut P,
+    drag: Drag,
+    turn: u32,
+    buffer: &mut [u64],
+) -> Result<usize, Refusal> {
+    let left = drag.left.saturating_add(turn.saturating_mul(drag.across));
+    let top = drag.top.saturating_add(turn.saturating_mul(drag.down));
+    let rect = Rect::new(left, top, drag.width, drag.height)?;
+    picture.prepare(rect, buffer)?;
+    Ok(rect.area().min(buffer.len()))
+}
+
 /// One prepare of a dragged rectangle.
-fn turn<P: Picture>(picture: &mut P, drag: Drag, i: u32, buffer: &mut [u64], sum: &mut Sum)
-{
-    let left = drag.left.saturating_add(i.saturating_mul(drag.across));
-    let top = drag.top.saturating_add(i.saturating_mul(drag.down));
-    match Rect::new(left, top, drag.width, drag.height) {
-        Ok(rect) => match picture.prepare(rect, buffer) {
-            Ok(()) => {
-                let n = rect.area().min(buffer.len());
-                sum.answered = sum.answered.saturating_add(1);
-                sum.take_all(&buffer[..n]);
-            }
-            Err(refusal) => sum.refuse(refusal),
-        },
+fn turn<P: Picture>(picture: &mut P, drag: Drag, turn: u32, buffer: &mut [u64], sum: &mut Sum) {
+    match prepared(picture, drag, turn, buffer) {
+        Ok(n) => sum.answer(&buffer[..n]),
         Err(refusal) => sum.refuse(refusal),
     }
 }
 
-fn drag_there<P: Picture>(picture: &mut P, drag: Drag, buffer: &mut [u64], sum: &mut Sum)
-{
-    for i in 0..drag.turns {
-        turn(picture, drag, i, buffer, sum);
-    }
-}
-
-fn drag_back<P: Picture>(picture: &mut P, drag: Drag, buffer: &mut [u64], sum: &mut Sum)
-{
-    for i in 0..drag.turns {
-        turn(picture, drag, drag.turns - 1 - i, buffer, sum);
-    }
-}
-
 /// Carries out the commands of a run.
-pub fn drive<P: Picture>(picture: &mut P, commands: &[Command], buffer: &mut [u64]) -> Sum
-{
-    let mut sum = Sum::new();
+pub fn drive<P: Picture>(picture: &mut P, commands: &[Command], buffer: &mut [u64]) -> Sum {
+    let mut sum = Sum::default();
     for command in commands {
         match *command {
             Command::Forget => picture.forget(),
-            Command::There(drag) => drag_there(picture, drag, buffer, &mut sum),
-            Command::Back(drag) => drag_back(picture, drag, buffer, &mut sum),
+            Command::There(drag) => for i in 0..drag.turns {
+                turn(picture, drag, i, buffer, &mut sum);
+            },
+            Command::Back(drag) => for i in (0..drag.turns).rev() {
+                turn(picture, drag, i, buffer, &mut sum);
+            },
         }
     }
     sum

@@ -1,12 +1,14 @@
 use crate::drive::{Sum, drive};
+use crate::error::CaseError;
 use crate::words::{Command, bytes_of, commands, shape};
-use cache::{Cache, Counts, TileShape};
+use cache::{Cache, Counts};
 use layer::Layer;
-use picture::{Picture, Refusal, Step, Turn};
-use pixel::Grey;
+use picture::{Picture, Step, Turn};
+use pixel::{Grey, Kind};
 use source::FileSource;
 use std::alloc::{AllocError, Global};
-use store::{Bytes, Store};
+use std::fmt;
+use store::Bytes;
 
 /// What is told of a run.
 #[derive(Clone, Copy)]
@@ -18,70 +20,87 @@ struct Outcome {
     lower: Option<Counts>,
 }
 
-/// One cache.
-fn one<P: Picture + Drop>(
-    below: P,
-    shape: TileShape,
+fn counts<W: fmt::Write>(f: &mut fmt::Formatter<W>, counts: Counts) -> fmt::Result {
+    let Counts {
+        hits,
+        fetches,
+        bypasses,
+    } = counts;
+    write!(f, " | {hits} {fetches} {bypasses}")
+}
+
+impl fmt::Display for Outcome {
+    fn fmt<W: fmt::Write>(&self, f: &mut fmt::Formatter<W>) -> fmt::Result {
+        let Outcome {
+            sum,
+            prepares,
+            below,
+            upper,
+            lower,
+        } = *self;
+        let Sum {
+            answered,
+            outside,
+            holes,
+            digest,
+        } = sum;
+        write!(
+            f,
+            "answered {answered} outside {outside} holes {holes} digest {digest} prepares {prepares} below {below}"
+        )?;
+        counts(f, upper)?;
+        match lower {
+            Some(lower) => counts(f, lower),
+            None => Ok(()),
+        }
+    }
+}
+
+/// What stands over the picture of a run: one cache, two, or a cache over a shrunk picture over a cache over a turned one over a cache.
+#[derive(Clone, Copy)]
+enum Form {
+    One,
+    Two,
+    Stack,
+}
+
+impl Form {
+    fn of(line: &str) -> Form {
+        if line.starts_with("one") {
+            Form::One
+        } else if line.starts_with("two") {
+            Form::Two
+        } else {
+            Form::Stack
+        }
+    }
+
+    /// The place of the picture's bytes among the words of a run, behind the form and the caches' shapes.
+    fn picture_at(self) -> usize {
+        match self {
+            Form::One => 4,
+            Form::Two => 7,
+            Form::Stack => 10,
+        }
+    }
+}
+
+/// Drives a cache; what is told of the picture below it comes from `lower`.
+fn driven<P: Picture + Drop, F: Fn(&P) -> Option<Counts>>(
+    mut cache: Cache<P>,
+    lower: F,
     commands: &[Command],
     buffer: &mut [u64],
 ) -> Outcome
+    requires { F.IsAlwaysCallable lower }
 {
-    let mut cache = Cache::new(shape, below);
     let sum = drive(&mut cache, commands, buffer);
     Outcome {
         sum,
         prepares: cache.count(),
         below: cache.below().count(),
         upper: cache.counts(),
-        lower: None,
-    }
-}
-
-/// A cache over a cache.
-fn two<P: Picture + Drop>(
-    below: P,
-    lower: TileShape,
-    upper: TileShape,
-    commands: &[Command],
-    buffer: &mut [u64],
-) -> Outcome
-{
-    let mut cache = Cache::new(upper, Cache::new(lower, below));
-    let sum = drive(&mut cache, commands, buffer);
-    Outcome {
-        sum,
-        prepares: cache.count(),
-        below: cache.below().count(),
-        upper: cache.counts(),
-        lower: Some(cache.below().counts()),
-    }
-}
-
-/// A cache over a shrunk picture over a cache over a turned one over a cache.
-fn stack<P: Picture + Drop>(
-    below: P,
-    shapes: [TileShape; 3],
-    commands: &[Command],
-    buffer: &mut [u64],
-) -> Result<Outcome, Refusal>
-{
-    let lowest = Cache::new(shapes[0], below);
-    match Layer::new(lowest, Step::Rot(Turn::D90)) {
-        Ok(turned) => over(Cache::new(shapes[1], turned), shapes[2], commands, buffer),
-        Err(refused) => Err(refused.refusal),
-    }
-}
-
-fn over<P: Picture + Drop>(
-    below: P,
-    shape: TileShape,
-    commands: &[Command],
-    buffer: &mut [u64],
-) -> Result<Outcome, Refusal>
-{
-    match Layer::new(below, Step::Shrink { across: 2, down: 2 }) {
-        Ok(shrunk) => Ok(one(shrunk, shape, commands, buffer)),
-        Err(refused) => Err(refused.refusal),
+        lower: lower(cache.below()),
     }
 }
 
@@ -89,97 +108,49 @@ fn over<P: Picture + Drop>(
 fn run<P: Picture + Drop>(
     below: P,
     line: &str,
-    heap: Global,
+    commands: &[Command],
     buffer: &mut [u64],
-) -> Result<Result<Outcome, Refusal>, AllocError>
-{
-    let first = match shape(line, 0) {
-        Ok(shape) => shape,
-        Err(refusal) => return Ok(Err(refusal)),
-    };
-    if line.starts_with("one") {
-        let all = commands(heap, line, 5)?;
-        return Ok(Ok(one(below, first, all.as_slice(), buffer)));
-    }
-    let second = match shape(line, 1) {
-        Ok(shape) => shape,
-        Err(refusal) => return Ok(Err(refusal)),
-    };
-    if line.starts_with("two") {
-        let all = commands(heap, line, 8)?;
-        return Ok(Ok(two(below, first, second, all.as_slice(), buffer)));
-    }
-    let third = match shape(line, 2) {
-        Ok(shape) => shape,
-        Err(refusal) => return Ok(Err(refusal)),
-    };
-    let all = commands(heap, line, 11)?;
-    Ok(stack(below, [first, second, third], all.as_slice(), buffer))
-}
-
-fn open<S: Store + Drop>(
-    store: S,
-    line: &str,
-    heap: Global,
-    buffer: &mut [u64],
-) -> Result<Result<Outcome, Refusal>, AllocError> {
-    match FileSource::<S, Grey>::open(store, 0) {
-        Ok(file) => run(file, line, heap, buffer),
-        Err(refused) => Ok(Err(refused.refusal)),
+) -> Result<Outcome, CaseError> {
+    let lowest = Cache::new(shape(line, 0)?, below);
+    match Form::of(line) {
+        Form::One => Ok(driven(lowest, |_| None, commands, buffer)),
+        Form::Two => {
+            let upper = Cache::new(shape(line, 1)?, lowest);
+            Ok(driven(upper, |lower| Some(lower.counts()), commands, buffer))
+        }
+        Form::Stack => {
+            let middle = shape(line, 1)?;
+            let upper = shape(line, 2)?;
+            let turned = Layer::new(lowest, Step::Rot(Turn::D90))?;
+            let shrunk = Layer::new(
+                Cache::new(middle, turned),
+                Step::Shrink { across: 2, down: 2 },
+            )?;
+            Ok(driven(Cache::new(upper, shrunk), |_| None, commands, buffer))
+        }
     }
 }
 
-fn counts(heap: Global, counts: Counts) -> Result<String, AllocError> {
-    let hits = counts.hits;
-    let fetches = counts.fetches;
-    let bypasses = counts.bypasses;
-    format!(in heap; " | {hits} {fetches} {bypasses}")
-}
-
-/// The place of the picture's bytes among the words of a run.
-fn picture_at(line: &str) -> usize {
-    if line.starts_with("one") {
-        4
-    } else if line.starts_with("two") {
-        7
-    } else {
-        10
-    }
+fn run_line(heap: Global, line: &str) -> Result<Outcome, CaseError> {
+    let at = Form::of(line).picture_at();
+    let bytes = bytes_of(heap, line.split_whitespace().nth(at).unwrap_or(""))?;
+    let commands = commands(heap, line, at.saturating_add(1))?;
+    let mut buffer = [0u64; 4096];
+    let store = Bytes {
+        bytes: bytes.as_slice(),
+    };
+    let file = FileSource::<Bytes, Grey>::open(store, 0)?;
+    run(file, line, commands.as_slice(), &mut buffer)
 }
 
 /// What came of the run of a line.
 pub fn told(heap: Global, line: &str) -> Result<String, AllocError> {
-    let bytes = bytes_of(
-        heap,
-        line.split_whitespace().nth(picture_at(line)).unwrap_or(""),
-    )?;
-    let mut buffer = [0u64; 4096];
-    let told = match open(
-        Bytes {
-            bytes: bytes.as_slice(),
-        },
-        line,
-        heap,
-        &mut buffer,
-    )? {
-        Ok(told) => told,
-        Err(refusal) => {
+    match run_line(heap, line) {
+        Ok(outcome) => format!(in heap; "{outcome}"),
+        Err(CaseError::Refused(refusal)) => {
             let number = refusal.number();
-            return format!(in heap; "refused {number}");
+            format!(in heap; "refused {number}")
         }
-    };
-    let answered = told.sum.answered;
-    let outside = told.sum.outside;
-    let holes = told.sum.holes;
-    let digest = told.sum.digest;
-    let prepares = told.prepares;
-    let below = told.below;
-    let upper = counts(heap, told.upper)?;
-    let lower = match told.lower {
-        Some(lower) => counts(heap, lower)?,
-        None => String::new(heap),
-    };
-    format!(in heap;
-        "answered {answered} outside {outside} holes {holes} digest {digest} prepares {prepares} below {below}{upper}{lower}"
-    )
+        Err(CaseError::OutOfMemory(error)) => Err(error),
+    }
 }

@@ -3,6 +3,7 @@
 #![tactic(auto)]
 
 mod drive;
+mod error;
 mod form;
 mod words;
 

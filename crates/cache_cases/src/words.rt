@@ -3,24 +3,15 @@ use picture::Refusal;
 use std::alloc::{AllocError, Global};
 
 fn digit(b: u8) -> u8 {
-    match b {
-        b'0'..=b'9' => b - b'0',
-        b'a'..=b'f' => b - b'a' + 10,
-        _ => 0,
-    }
+    char::from(b).to_digit(16).map_or(0, |d| (d & 15) as u8)
 }
 
 /// The bytes that a word writes in hexadecimal.
 pub fn bytes_of(heap: Global, word: &str) -> Result<Vec<u8>, AllocError> {
     let mut bytes = Vec::new(heap);
-    let mut high = None;
-    for b in word.as_bytes() {
-        match high {
-            None => high = Some(digit(*b)),
-            Some(h) => {
-                bytes.push((h & 15) * 16 + (digit(*b) & 15))?;
-                high = None;
-            }
+    for pair in word.as_bytes().chunks_exact(2) {
+        if let [high, low] = pair {
+            bytes.push((digit(*high) & 15) * 16 + (digit(*low) & 15))?;
         }
     }
     Ok(bytes)
@@ -28,10 +19,7 @@ pub fn bytes_of(heap: Global, word: &str) -> Result<Vec<u8>, AllocError> {
 
 /// The number that a word writes, or 0.
 pub fn number(word: Option<&str>) -> u32 {
-    match word {
-        Some(text) => text.parse::<u32>().unwrap_or(0),
-        None => 0,
-    }
+    word.and_then(|text| text.parse::<u32>().ok()).unwrap_or(0)
 }
 
 /// A rectangle that moves: where it begins, its sides, its steps and how many.
@@ -46,6 +34,24 @@ pub struct Drag {
     pub turns: u32,
 }
 
+impl Drag {
+    /// The drag of seven numbers.
+    fn of(numbers: &[u32]) -> Option<Drag> {
+        let [left, top, width, height, across, down, turns] = *numbers else {
+            return None;
+        };
+        Some(Drag {
+            left,
+            top,
+            width,
+            height,
+            across,
+            down,
+            turns,
+        })
+    }
+}
+
 /// A command of a run.
 #[derive(Clone, Copy)]
 pub enum Command {
@@ -54,37 +60,34 @@ pub enum Command {
     Back(Drag),
 }
 
+/// A drag whose numbers are still being read.
+#[derive(Drop)]
+struct Pending {
+    back: bool,
+    numbers: Vec<u32>,
+}
+
 /// The commands that the words behind the picture write.
 pub fn commands(heap: Global, line: &str, skip: usize) -> Result<Vec<Command>, AllocError> {
     let mut all = Vec::new(heap);
-    let mut numbers = [0u32; 7];
-    let mut have = 7;
-    let mut back = false;
+    let mut pending: Option<Pending> = None;
     for word in line.split_whitespace().skip(skip) {
         if word == "f" {
             all.push(Command::Forget)?;
         } else if word == "d" || word == "b" {
-            back = word == "b";
-            have = 0;
-        } else if have < 7 {
-            numbers[have] = number(Some(word));
-            have += 1;
-            if have == 7 {
-                let [left, top, width, height, across, down, turns] = numbers;
-                let drag = Drag {
-                    left,
-                    top,
-                    width,
-                    height,
-                    across,
-                    down,
-                    turns,
-                };
-                all.push(if back {
-                    Command::Back(drag)
+            pending = Some(Pending {
+                back: word == "b",
+                numbers: Vec::new(heap),
+            });
+        } else if let Some(drag) = &mut pending {
+            drag.numbers.push(number(Some(word)))?;
+            if let Some(read) = Drag::of(drag.numbers.as_slice()) {
+                all.push(if drag.back {
+                    Command::Back(read)
                 } else {
-                    Command::There(drag)
+                    Command::There(read)
                 })?;
+                pending = None;
             }
         }
     }
@@ -94,10 +97,10 @@ pub fn commands(heap: Global, line: &str, skip: usize) -> Result<Vec<Command>, A
 /// The shape of this index among the words of a run.
 pub fn shape(line: &str, index: usize) -> Result<TileShape, Refusal> {
     let at = index.saturating_mul(3).saturating_add(1);
-    let mut it = line.split_whitespace().skip(at);
+    let mut words = line.split_whitespace().skip(at);
     TileShape::new(
-        number(it.next()),
-        number(it.next()),
-        number(it.next()) as usize,
+        number(words.next()),
+        number(words.next()),
+        number(words.next()) as usize,
     )
 }

@@ -1,10 +1,12 @@
+use crate::desk::Desk;
+use crate::error::CutError;
 use crate::strips::STRIP;
 use picture::{Picture, Rect};
 use pipeline::prepare_both;
 use pixel::Kind;
 use reread::open;
-use std::{fs, io};
-use store::{Bytes, Store};
+use std::fs;
+use store::Bytes;
 
 /// How many rows from the top two pictures have in common, counted by whole strips; none where their sizes differ.
 fn common_rows<P: Picture, Q: Picture<Pixel = P::Pixel>>(
@@ -12,8 +14,7 @@ fn common_rows<P: Picture, Q: Picture<Pixel = P::Pixel>>(
     second: &mut Q,
     a: &mut [u64],
     b: &mut [u64],
-) -> u32
-{
+) -> u32 {
     let size = first.size();
     if second.size() != size {
         return 0;
@@ -25,10 +26,9 @@ fn common_rows<P: Picture, Q: Picture<Pixel = P::Pixel>>(
             return rows;
         };
         let n = rect.area();
-        match prepare_both(first, second, rect, a, b) {
-            (Ok(()), Ok(())) => {}
-            _ => return rows,
-        }
+        let (Ok(()), Ok(())) = prepare_both(first, second, rect, a, b) else {
+            return rows;
+        };
         if a.get(0..n) != b.get(0..n) {
             return rows;
         }
@@ -37,35 +37,22 @@ fn common_rows<P: Picture, Q: Picture<Pixel = P::Pixel>>(
     rows
 }
 
-fn rows_in<P: Picture, S: Store + Drop>(
-    picture: &mut P,
-    store: S,
-    a: &mut [u64],
-    b: &mut [u64],
-) -> u32
-{
-    match open::<S, P::Pixel>(store, 0) {
-        Ok(mut file) => common_rows(picture, &mut file, a, b),
-        Err(_) => 0,
-    }
-}
-
-/// Reads a written file again, and tells how many of its rows show what the picture shows. The bytes are proved to be right as they leave the engine; this looks at what became of them.
-pub fn read_back<P: Picture>(
-    rt: &HostRuntime,
-    picture: &mut P,
-    name: &str,
-    work: &mut [u64],
-) -> io::Result<u32>
-{
-    let bytes = fs::read(rt, name)?;
-    let mut again = vec![in rt.alloc(); 0u64; work.len()]?;
-    Ok(rows_in(
-        picture,
-        Bytes {
+impl<'a> Desk<'a> {
+    /// Reads a written file again, and tells how many of its rows show what the picture shows. The bytes are proved to be right as they leave the engine; this looks at what became of them.
+    pub fn read_back<P: Picture>(&mut self, picture: &mut P, name: &str) -> Result<u32, CutError> {
+        let bytes = fs::read(self.rt, name)?;
+        let mut again = vec![in self.rt.alloc(); 0u64; self.work.len()]?;
+        let store = Bytes {
             bytes: bytes.as_slice(),
-        },
-        work,
-        again.as_mut_slice(),
-    ))
+        };
+        match open::<Bytes, P::Pixel>(store, 0) {
+            Ok(mut file) => Ok(common_rows(
+                picture,
+                &mut file,
+                self.work.as_mut_slice(),
+                again.as_mut_slice(),
+            )),
+            Err(_) => Ok(0),
+        }
+    }
 }

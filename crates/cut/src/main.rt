@@ -3,31 +3,36 @@
 #![tactic(auto)]
 
 mod check;
+mod desk;
+mod error;
 mod job;
 mod strips;
 mod text;
 mod tiles;
 
-use job::{cut_colour, cut_grey};
+use error::CutError;
+use job::cut;
+use pixel::{Colour, Grey};
 use std::io;
 use std::io::{ErrorKind, Read};
 
 /// Cuts what arrives on standard input: colour if the second byte says so, else grey.
-fn read_and_cut(rt: &HostRuntime) -> io::Result<()> {
+fn read_and_cut(rt: &HostRuntime) -> Result<(), CutError> {
     let mut bytes = Vec::new(rt.alloc());
     rt.stdin().read_to_end(&mut bytes)?;
     let bytes = bytes.as_slice();
     if bytes.get(1).copied() == Some(b'6') {
-        cut_colour(rt, bytes)
+        cut::<Colour>(rt, bytes, "ppm")
     } else {
-        cut_grey(rt, bytes)
+        cut::<Grey>(rt, bytes, "pgm")
     }
 }
 
 fn main(rt: HostRuntime) -> io::Result<()> {
     match read_and_cut(&rt) {
         Ok(()) => Ok(()),
-        Err(error) => {
+        Err(CutError::Refused(refusal)) => rt.println(refusal),
+        Err(CutError::Io(error)) => {
             if error.kind() == ErrorKind::OutOfMemory {
                 eprintln!(rt; "cut: there is not enough memory for this picture")?;
             } else {

@@ -1,79 +1,93 @@
-use crate::job::Done;
 use crate::strips::Written;
+use crate::tiles::Tiles;
 use cache::Counts;
-use picture::{Refusal, Size};
-use std::io;
-use wording::refusal_text;
+use picture::Size;
+use std::fmt;
 
-/// Tells a refusal.
-pub fn refused(rt: &HostRuntime, refusal: Refusal) -> io::Result<()> {
-    let text = refusal_text(rt.alloc(), refusal)?;
-    rt.println(text.as_str())
+/// What was read and written, and how often what was asked.
+#[derive(Drop)]
+pub struct Summary<'a> {
+    pub ending: &'a str,
+    pub before: Size,
+    pub after: Size,
+    pub file: Written,
+    pub tiles: Tiles,
+    pub prepares: u64,
+    pub upper: Counts,
+    pub lower: Counts,
 }
 
-fn sizes(rt: &HostRuntime, before: Size, after: Size) -> io::Result<()> {
-    let Size {
-        width,
-        height,
-        maxval,
-        ..
-    } = before;
-    println!(rt; "picture: {width} by {height}, maxval {maxval}")?;
-    let Size { width, height, .. } = after;
-    println!(rt; "turned and shrunk: {width} by {height}")
-}
+impl<'a> Summary<'a> {
+    fn sizes<W: fmt::Write>(&self, f: &mut fmt::Formatter<W>) -> fmt::Result {
+        let Size {
+            width,
+            height,
+            maxval,
+            ..
+        } = self.before;
+        writeln!(f, "picture: {width} by {height}, maxval {maxval}")?;
+        let Size { width, height, .. } = self.after;
+        writeln!(f, "turned and shrunk: {width} by {height}")
+    }
 
-fn file(rt: &HostRuntime, ending: &str, written: Written) -> io::Result<()> {
-    let bytes = written.bytes;
-    let strips = written.strips;
-    let rows = written.rows;
-    let height = written.height;
-    let read_back = written.read_back;
-    match written.refusal {
-        None => {
-            println!(rt; "turned.{ending}: {bytes} bytes, {rows} rows in {strips} strips")?;
-            println!(rt; "read back: {read_back} of {height} rows agree")
-        }
-        Some(refusal) => {
-            let why = refusal_text(rt.alloc(), refusal)?;
-            println!(rt;
+    fn file<W: fmt::Write>(&self, f: &mut fmt::Formatter<W>) -> fmt::Result {
+        let ending = self.ending;
+        let Written {
+            bytes,
+            strips,
+            rows,
+            height,
+            refusal,
+            read_back,
+        } = self.file;
+        match refusal {
+            None => {
+                writeln!(
+                    f,
+                    "turned.{ending}: {bytes} bytes, {rows} rows in {strips} strips"
+                )?;
+                writeln!(f, "read back: {read_back} of {height} rows agree")
+            }
+            Some(why) => writeln!(
+                f,
                 "turned.{ending}: abandoned at row {rows} of {height}, behind {bytes} bytes in {strips} strips: {why}"
-            )
+            ),
         }
+    }
+
+    fn tiles<W: fmt::Write>(&self, f: &mut fmt::Formatter<W>) -> fmt::Result {
+        let written = self.tiles.written;
+        let all = self.tiles.all;
+        let bytes = self.tiles.bytes;
+        writeln!(f, "tiles: {written} of {all} written, {bytes} bytes")?;
+        if written < all {
+            let left_out = self.tiles.left_out.as_str();
+            write!(f, "left out:\n{left_out}")?;
+        }
+        Ok(())
     }
 }
 
-fn cache(rt: &HostRuntime, name: &str, counts: Counts) -> io::Result<()> {
+fn cache<W: fmt::Write>(f: &mut fmt::Formatter<W>, name: &str, counts: Counts) -> fmt::Result {
     let Counts {
         hits,
         fetches,
         bypasses,
     } = counts;
-    println!(rt; "{name} cache: {hits} hits, {fetches} fetches, {bypasses} bypasses")
+    writeln!(
+        f,
+        "{name} cache: {hits} hits, {fetches} fetches, {bypasses} bypasses"
+    )
 }
 
-/// Tells what was read and written, and how often what was asked.
-pub fn summary(
-    rt: &HostRuntime,
-    ending: &str,
-    before: Size,
-    after: Size,
-    done: Done,
-    prepares: u64,
-    upper: Counts,
-    lower: Counts,
-) -> io::Result<()> {
-    sizes(rt, before, after)?;
-    file(rt, ending, done.written)?;
-    let written = done.tiles.written;
-    let all = done.tiles.all;
-    let bytes = done.tiles.bytes;
-    println!(rt; "tiles: {written} of {all} written, {bytes} bytes")?;
-    if written < all {
-        println!(rt; "left out:")?;
-        rt.print(done.tiles.left_out.as_str())?;
+impl<'a> fmt::Display for Summary<'a> {
+    fn fmt<W: fmt::Write>(&self, f: &mut fmt::Formatter<W>) -> fmt::Result {
+        self.sizes(f)?;
+        self.file(f)?;
+        self.tiles(f)?;
+        let prepares = self.prepares;
+        writeln!(f, "prepares: {prepares}")?;
+        cache(f, "upper", self.upper)?;
+        cache(f, "lower", self.lower)
     }
-    println!(rt; "prepares: {prepares}")?;
-    cache(rt, "upper", upper)?;
-    cache(rt, "lower", lower)
 }

@@ -1,4 +1,8 @@
+use crate::error::CaseError;
+use crate::outcome::Opened;
 use crate::words::number;
+use picture::{Picture, Rect};
+use pixel::Kind;
 
 /// The buffer of a case has at most so many entries.
 const LONGEST: u32 = 100_000;
@@ -13,21 +17,39 @@ pub struct Ask {
     pub length: usize,
 }
 
-/// The demand in the five words from this one on.
-pub fn demand(words: &[&str], from: usize) -> Option<Ask> {
-    let left = number(words, from)?;
-    let top = number(words, from.saturating_add(1))?;
-    let width = number(words, from.saturating_add(2))?;
-    let height = number(words, from.saturating_add(3))?;
-    let length = number(words, from.saturating_add(4))?;
-    if length > LONGEST || words.len() != from.saturating_add(5) {
-        return None;
+impl Ask {
+    /// The demand in the five words from this one on, which are the last.
+    pub fn read(words: &[&str], from: usize) -> Result<Ask, CaseError> {
+        let words = words.get(from..).unwrap_or(&[]);
+        let length = number(words, 4)?;
+        if length > LONGEST || words.len() != 5 {
+            return Err(CaseError::NoCase);
+        }
+        Ok(Ask {
+            left: number(words, 0)?,
+            top: number(words, 1)?,
+            width: number(words, 2)?,
+            height: number(words, 3)?,
+            length: length as usize,
+        })
     }
-    Some(Ask {
-        left,
-        top,
-        width,
-        height,
-        length: length as usize,
-    })
+
+    /// Prepares the rectangle of a picture if the numbers make one, and tells what came of it.
+    pub fn answered_by<P: Picture>(
+        self,
+        picture: &mut P,
+        header: u64,
+        buffer: &mut [u64],
+    ) -> Opened {
+        let prepared = match Rect::new(self.left, self.top, self.width, self.height) {
+            Ok(rect) => picture.prepare(rect, buffer),
+            Err(refusal) => Err(refusal),
+        };
+        Opened {
+            size: picture.size(),
+            header,
+            prepared,
+            count: picture.count(),
+        }
+    }
 }

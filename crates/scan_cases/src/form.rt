@@ -1,5 +1,6 @@
+use crate::error::CaseError;
 use crate::words::numbers;
-use std::alloc::{AllocError, Global};
+use std::alloc::Global;
 
 /// How a store has the bytes of a case.
 #[derive(Drop)]
@@ -13,26 +14,21 @@ pub enum Form {
 }
 
 /// `N`, or `N:M` where the cut is not at the joint.
-fn joint(text: &str) -> Option<Form> {
+fn joint(text: &str) -> Result<Form, CaseError> {
     let (from, cut) = text.split_once(':').unwrap_or((text, text));
-    let from = from.parse::<u64>().ok()?;
-    let cut = cut.parse::<usize>().ok()?;
-    Some(Form::Joint { from, cut })
+    let from = from.parse::<u64>().ok().ok_or(CaseError::NoCase)?;
+    let cut = cut.parse::<usize>().ok().ok_or(CaseError::NoCase)?;
+    Ok(Form::Joint { from, cut })
 }
 
 /// The form that a word names: `bytes`, `sectors:K,K`, `joined:N` or `joined:N:M`.
-pub fn form_of(heap: Global, text: &str) -> Result<Option<Form>, AllocError> {
+pub fn form_of(heap: Global, text: &str) -> Result<Form, CaseError> {
     if text == "bytes" {
-        return Ok(Some(Form::Plain));
+        return Ok(Form::Plain);
     }
     if let Some(rest) = text.strip_prefix("joined:") {
-        return Ok(joint(rest));
+        return joint(rest);
     }
-    let Some(rest) = text.strip_prefix("sectors:") else {
-        return Ok(None);
-    };
-    match numbers(heap, rest)? {
-        Some(unread) => Ok(Some(Form::Unread(unread))),
-        None => Ok(None),
-    }
+    let sectors = text.strip_prefix("sectors:").ok_or(CaseError::NoCase)?;
+    Ok(Form::Unread(numbers(heap, sectors)?))
 }

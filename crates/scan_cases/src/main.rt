@@ -5,6 +5,7 @@
 mod ask;
 mod bytes;
 mod case;
+mod error;
 mod file;
 mod form;
 mod memory;

@@ -1,8 +1,9 @@
 use crate::ask::Ask;
+use crate::error::CaseError;
 use crate::outcome::Outcome;
-use picture::{Picture, Rect};
+use crate::words::number;
 use pixel::Kind;
-use source::{CodeSlice, Codes, MemorySource};
+use source::{CodeSlice, MemorySource};
 
 /// The numbers of a picture in memory.
 #[derive(Clone, Copy)]
@@ -13,34 +14,30 @@ pub struct Frame {
     pub number: u32,
 }
 
-/// Makes the picture of these codes, and prepares the rectangle if its numbers make one.
-fn run<C: Codes + Drop, K: Kind>(codes: C, frame: Frame, ask: Ask, buffer: &mut [u64]) -> Outcome {
+impl Frame {
+    /// The frame in the four words from this one on.
+    pub fn read(words: &[&str], from: usize) -> Result<Frame, CaseError> {
+        let words = words.get(from..).unwrap_or(&[]);
+        Ok(Frame {
+            width: number(words, 0)?,
+            height: number(words, 1)?,
+            maxval: number(words, 2)?,
+            number: number(words, 3)?,
+        })
+    }
+}
+
+/// Makes the picture of these codes, and asks it.
+pub fn run_memory<K: Kind>(codes: &[u64], frame: Frame, ask: Ask, buffer: &mut [u64]) -> Outcome {
     let Frame {
         width,
         height,
         maxval,
         number,
     } = frame;
-    match MemorySource::<C, K>::new(codes, width, height, maxval, number) {
-        Ok(mut memory) => {
-            let prepared = match Rect::new(ask.left, ask.top, ask.width, ask.height) {
-                Ok(rect) => memory.prepare(rect, buffer),
-                Err(refused) => Err(refused),
-            };
-            let size = memory.size();
-            let count = memory.count();
-            Outcome::Opened {
-                size,
-                header: 0,
-                prepared,
-                count,
-            }
-        }
-        Err(refused) => Outcome::Refused(refused.refusal),
+    let codes = CodeSlice { codes };
+    match MemorySource::<CodeSlice, K>::new(codes, width, height, maxval, number) {
+        Ok(mut memory) => Ok(ask.answered_by(&mut memory, 0, buffer)),
+        Err(refused) => Err(refused.refusal),
     }
-}
-
-/// The same with a slice of codes.
-pub fn run_memory<K: Kind>(codes: &[u64], frame: Frame, ask: Ask, buffer: &mut [u64]) -> Outcome {
-    run::<CodeSlice, K>(CodeSlice { codes }, frame, ask, buffer)
 }

@@ -1,22 +1,20 @@
 use picture::{Fault, Refusal, Size};
-use std::alloc::{AllocError, Global};
+use std::fmt;
 
-/// What came of a case.
+/// What came of asking a picture that was opened.
 #[derive(Clone, Copy)]
-pub enum Outcome {
-    /// The picture was not opened.
-    Refused(Refusal),
-    /// The picture was opened, and asked for a rectangle.
-    Opened {
-        size: Size,
-        header: u64,
-        prepared: Result<(), Refusal>,
-        count: u64,
-    },
+pub struct Opened {
+    pub size: Size,
+    pub header: u64,
+    pub prepared: Result<(), Refusal>,
+    pub count: u64,
 }
 
-/// Why a call said no.
-fn refusal_text(heap: Global, refusal: Refusal) -> Result<String, AllocError> {
+/// What came of a case: an opened picture's answer, or why none was opened.
+pub type Outcome = Result<Opened, Refusal>;
+
+/// Writes why a call said no.
+fn refused<W: fmt::Write>(f: &mut fmt::Formatter<W>, refusal: Refusal) -> fmt::Result {
     match refusal {
         Refusal::Hole(
             Fault {
@@ -27,71 +25,71 @@ fn refusal_text(heap: Global, refusal: Refusal) -> Result<String, AllocError> {
             },
         ) => {
             let cause = cause.number();
-            format!(in heap; "hole {cause} {source} {column} {row}")
+            write!(f, "hole {cause} {source} {column} {row}")
         }
         other => {
             let number = other.number();
-            format!(in heap; "refused {number}")
+            write!(f, "refused {number}")
         }
-    }
-}
-
-/// What a prepare answered.
-fn answered(heap: Global, prepared: Result<(), Refusal>) -> Result<String, AllocError> {
-    match prepared {
-        Ok(()) => String::from_str(heap, "ok"),
-        Err(refused) => refusal_text(heap, refused),
     }
 }
 
 /// Writes so many equal entries, each after a space; more than 9 as one with their number.
-fn add_run(heap: Global, text: &mut String, entry: u64, times: usize) -> Result<(), AllocError> {
+fn run<W: fmt::Write>(f: &mut fmt::Formatter<W>, entry: u64, times: usize) -> fmt::Result {
     if times > 9 {
-        let run = format!(in heap; " {entry}*{times}")?;
-        return text.push_str(run.as_str());
+        return write!(f, " {entry}*{times}");
     }
-    let one = format!(in heap; " {entry}")?;
     for _ in 0..times {
-        text.push_str(one.as_str())?;
+        write!(f, " {entry}")?;
     }
     Ok(())
 }
 
-/// The entries of a buffer.
-fn listed(heap: Global, buffer: &[u64]) -> Result<String, AllocError> {
-    let mut text = String::new(heap);
+/// Writes the entries of a buffer.
+fn entries<W: fmt::Write>(f: &mut fmt::Formatter<W>, buffer: &[u64]) -> fmt::Result {
     let mut last = 0;
     let mut times: usize = 0;
     for entry in buffer {
         if *entry != last {
-            add_run(heap, &mut text, last, times)?;
+            run(f, last, times)?;
             last = *entry;
             times = 0;
         }
         times = times.saturating_add(1);
     }
-    add_run(heap, &mut text, last, times)?;
-    Ok(text)
+    run(f, last, times)
 }
 
 /// The line that tells an outcome and what the buffer then held.
-pub fn told(heap: Global, outcome: Outcome, buffer: &[u64]) -> Result<String, AllocError> {
-    match outcome {
-        Outcome::Refused(refused) => refusal_text(heap, refused),
-        Outcome::Opened {
+#[derive(Drop)]
+pub struct Line<'a> {
+    pub outcome: Outcome,
+    pub buffer: &'a [u64],
+}
+
+impl<'a> fmt::Display for Line<'a> {
+    fn fmt<W: fmt::Write>(&self, f: &mut fmt::Formatter<W>) -> fmt::Result {
+        let Opened {
             size,
             header,
             prepared,
             count,
-        } => {
-            let width = size.width;
-            let height = size.height;
-            let maxval = size.maxval;
-            let answer = answered(heap, prepared)?;
-            let entries = listed(heap, buffer)?;
-            format!(in heap;
-                "opened {width} {height} {maxval} {header} | {answer}{entries} count {count}"
-            )
+        } = match self.outcome {
+            Ok(opened) => opened,
+            Err(refusal) => return refused(f, refusal),
+        };
+        let Size {
+            width,
+            height,
+            maxval,
+            ..
+        } = size;
+        write!(f, "opened {width} {height} {maxval} {header} | ")?;
+        match prepared {
+            Ok(()) => f.write_str("ok")?,
+            Err(refusal) => refused(f, refusal)?,
         }
+        entries(f, self.buffer)?;
+        write!(f, " count {count}")
     }
 }

@@ -1,4 +1,5 @@
-use std::alloc::{AllocError, Global};
+use crate::error::CaseError;
+use std::alloc::Global;
 
 /// The word of this index; none is empty, so the empty text stands for one that is not there.
 pub fn word<'a>(words: &[&'a str], index: usize) -> &'a str {
@@ -6,21 +7,21 @@ pub fn word<'a>(words: &[&'a str], index: usize) -> &'a str {
 }
 
 /// The number that the word of this index is.
-pub fn number(words: &[&str], index: usize) -> Option<u32> {
-    word(words, index).parse::<u32>().ok()
+pub fn number(words: &[&str], index: usize) -> Result<u32, CaseError> {
+    word(words, index)
+        .parse::<u32>()
+        .ok()
+        .ok_or(CaseError::NoCase)
 }
 
 /// Numbers parted by commas; `-` is none of them.
-pub fn numbers(heap: Global, text: &str) -> Result<Option<Vec<u64>>, AllocError> {
+pub fn numbers(heap: Global, text: &str) -> Result<Vec<u64>, CaseError> {
     let mut found = Vec::new(heap);
     if text == "-" {
-        return Ok(Some(found));
+        return Ok(found);
     }
     for part in text.split(',') {
-        match part.parse::<u64>() {
-            Ok(n) => found.push(n)?,
-            Err(_) => return Ok(None),
-        }
+        found.push(part.parse::<u64>().ok().ok_or(CaseError::NoCase)?)?;
     }
-    Ok(Some(found))
+    Ok(found)
 }
