@@ -1,5 +1,5 @@
 -- A rectangle served row by row.
-use Rattle.std.proofs.Common.{◌≡◌, ℕ, ◌+◌, ◌-◌, ◌*◌, ◌/◌, ◌<◌, ◌≤◌, true, ◌&&◌, leb, List, ◌++◌, map, length, get_or, take, drop, replicate, Some, sym, ap, ◌∙◌, ⊎_elim, mul-le-mul_right, mul_comm, add-mul, one-mul, arith}
+use Rattle.std.proofs.Common.{◌≡◌, ℕ, ◌+◌, ◌-◌, ◌*◌, ◌/◌, ◌<◌, ◌≤◌, true, ◌&&◌, leb, List, ◌++◌, map, length, get_or, take, drop, replicate, Some, sym, ap, ◌∙◌, subst, ⊎_elim, mul-le-mul_right, mul_comm, add-mul, one-mul, arith}
 use borrow.Rule.Slice.PartMut.{put_mid, post_of}
 use Rattle.std.proofs.lemmas.List.{get_or_append_left, get_or-append_right, get_or-take, length-take-le, take-append-drop}
 use Rattle.std.proofs.lemmas.Bool.{and_from, le-leb, cond-true, cases_lt}
@@ -11,7 +11,7 @@ use Rattle.picture.specs.declared.fault.Fault.{Fault}
 use Rattle.picture.specs.declared.rect.Rect.{Rect}
 use Rattle.picture.specs.Places.{Place, pixel, hole, first_fault}
 use Rattle.picture.specs.Images.{Image}
-use Rattle.picture.specs.Prepare.{area, inside, nth, lined, holed, answer, put, code_at, coded, Shown, filled}
+use Rattle.picture.specs.Prepare.{area, within, inside, nth, lined, holed, answer, put, code_at, coded, Shown, filled}
 use Rattle.picture.proofs.Faults.{shown_clean}
 
 -- a part of a list is written over
@@ -39,14 +39,22 @@ row_is i r j k h =
     ap (λ x. i.at (r.left + x) (r.top + (j * r.width + k) / r.width)) (mod-mul-add j r.width k h)
     ∙ ap (λ y. i.at (r.left + k) (r.top + y)) (div-mul-add j r.width k h)
 
-inside_is : {K : Type 0} (i : Image K) (r : Rect) → r.left + r.width ≤ i.width → r.top + r.height ≤ i.height → inside i r ≡ true
-inside_is i r a b = and_from (leb (r.left + r.width) i.width) (leb (r.top + r.height) i.height) (le-leb _ _ a) (le-leb _ _ b)
+-- inside a picture with these sides
+pub inside_is : {K : Type 0} (i : Image K) (r : Rect) (W H : ℕ) → W ≡ i.width → H ≡ i.height → within W H r ≡ true → inside i r ≡ true
+inside_is i r W H a b h = subst (λ w. within w i.height r ≡ true) a (subst (λ x. within W x r ≡ true) b h)
+
+-- inside, by its sides
+pub inside_by : {K : Type 0} (i : Image K) (r : Rect) → r.left + r.width ≤ i.width → r.top + r.height ≤ i.height → inside i r ≡ true
+inside_by i r a b = and_from (leb (r.left + r.width) i.width) (leb (r.top + r.height) i.height) (le-leb _ _ a) (le-leb _ _ b)
 
 -- inside, and with room for it, a prepare tells the first hole
+pub answer_in : {K : Type 0} (i : Image K) (r : Rect) (n : ℕ) → inside i r ≡ true → area r ≤ n → answer i r n ≡ holed (first_fault (nth i r) (area r))
+answer_in i r n a h =
+    cond-true (inside i r) _ _ a ∙ cond-true (leb (area r) n) _ _ (le-leb (area r) n h)
+
 pub answer_is : {K : Type 0} (i : Image K) (r : Rect) (n : ℕ) → r.left + r.width ≤ i.width → r.top + r.height ≤ i.height → area r ≤ n
     → answer i r n ≡ holed (first_fault (nth i r) (area r))
-answer_is i r n a b h =
-    cond-true (inside i r) _ _ (inside_is i r a b) ∙ cond-true (leb (area r) n) _ _ (le-leb (area r) n h)
+answer_is i r n a b h = answer_in i r n (inside_by i r a b) h
 
 module _ {K S : Type 0} (o : Ops K S) where
   -- one more part is shown
@@ -62,11 +70,15 @@ module _ {K S : Type 0} (o : Ops K S) where
   coded_at (pixel k) c e = cc
   coded_at (hole f) c e = cc
 
+  pub filled_in : (i : Image K) (r : Rect) (buffer : List ℕ) → inside i r ≡ true → area r ≤ length buffer
+      → filled o i r buffer ≡ put (first_fault (nth i r) (area r)) (λ k. code_at o (nth i r k)) (area r) buffer
+  filled_in i r buffer a h =
+      cond-true (inside i r && leb (area r) (length buffer)) _ _
+      (and_from (inside i r) (leb (area r) (length buffer)) a (le-leb (area r) (length buffer) h))
+
   pub filled_is : (i : Image K) (r : Rect) (buffer : List ℕ) → r.left + r.width ≤ i.width → r.top + r.height ≤ i.height → area r ≤ length buffer
       → filled o i r buffer ≡ put (first_fault (nth i r) (area r)) (λ k. code_at o (nth i r k)) (area r) buffer
-  filled_is i r buffer a b h =
-      cond-true (inside i r && leb (area r) (length buffer)) _ _
-      (and_from (inside i r) (leb (area r) (length buffer)) (inside_is i r a b) (le-leb (area r) (length buffer) h))
+  filled_is i r buffer a b h = filled_in i r buffer (inside_by i r a b) h
 
   -- all are pixels, and further entries stay
   pub whole : (f : ℕ → Place K) (n : ℕ) (old new : List ℕ) → n ≤ length new → Shown o f n new → drop n new ≡ drop n old

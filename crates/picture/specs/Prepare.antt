@@ -1,11 +1,11 @@
 -- What a prepare answers, and what it leaves in the buffer and of the picture.
-use Rattle.std.specs.Prelude.{◌≡◌, ℕ, ◌+◌, ◌-◌, ◌*◌, ◌/◌, ◌%◌, ◌^◌, ◌<◌, min, Bool, cond, ◌&&◌, List, [], ◌++◌, map, length, drop, replicate, Some, None, Ok, Err, Option, Result, nat_le, slice_index}
+use Rattle.std.specs.Prelude.{◌≡◌, ℕ, ◌+◌, ◌-◌, ◌*◌, ◌/◌, ◌%◌, ◌^◌, ◌<◌, ◌≤◌, min, Bool, true, false, cond, ◌&&◌, List, [], ◌++◌, map, length, drop, replicate, Some, None, Ok, Err, Option, Result, nat_le, slice_index}
 use Rattle.std.specs.List.{range_with_len}
 use Rattle.pixel.specs.Ops.{Ops}
 use Rattle.picture.specs.declared.fault.Fault.{Fault}
 use Rattle.picture.specs.declared.fault.Refusal.{Refusal}
 use Rattle.picture.specs.declared.rect.Rect.{Rect}
-use Rattle.picture.specs.Refusals.{Outcome, done, refused, fault_values, outcome}
+use Rattle.picture.specs.Refusals.{Outcome, done, refused, fault_values, outcome, told}
 use Rattle.picture.specs.Places.{Place, pixel, hole, first_fault}
 use Rattle.picture.specs.Images.{Image, Model}
 
@@ -16,8 +16,17 @@ up n = min (n + 1) (2 ^ 64 - 1)
 abbrev pub area : Rect → ℕ
 area r = r.width * r.height
 
+-- a rectangle lies in a picture so wide and high
+abbrev pub within : ℕ → ℕ → Rect → Bool
+within W H r = nat_le (r.left + r.width) W && nat_le (r.top + r.height) H
+
 abbrev pub inside : {K : Type 0} → Image K → Rect → Bool
-inside i r = nat_le (r.left + r.width) i.width && nat_le (r.top + r.height) i.height
+inside i r = within i.width i.height r
+
+-- what a prepare tests before it looks at a place: how many places there are to fill, or 10 outside a picture so wide and high, then 11 without room for them
+abbrev pub Admitted : ℕ → ℕ → Rect → ℕ → Result ℕ Refusal → Type 0
+Admitted W H r len (Ok n) = (n ≡ area r) × (within W H r ≡ true) × (area r ≤ len)
+Admitted W H r len (Err e) = (within W H r && nat_le (area r) len ≡ false) × (told e ≡ cond (within W H r) (refused 11 []) (refused 10 []))
 
 -- the k-th place of a rectangle in reading order
 abbrev pub nth : {K : Type 0} → Image K → Rect → ℕ → Place K

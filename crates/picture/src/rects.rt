@@ -1,5 +1,5 @@
 ghost use Rattle.std.specs.Prelude.{◌≡◌, ℕ, ◌+◌, ◌*◌, ◌≤◌};
-ghost use Rattle.picture.specs.Prepare.{area};
+ghost use Rattle.picture.specs.Prepare.{Admitted, area};
 ghost use Rattle.picture.specs.Making.{RectMade};
 
 use crate::fault::Refusal;
@@ -33,5 +33,19 @@ impl Rect {
         ensures { result ≡ area self }
     {
         self.width as usize * self.height as usize
+    }
+
+    /// How many entries of a buffer a prepare of it fills: it has to lie in a picture so wide and high, and then the buffer has to have room.
+    pub fn admitted(self, wide: u32, high: u32, room: usize) -> Result<usize, Refusal>
+        ensures { Admitted wide high self room result }
+    {
+        if self.left + self.width > wide || self.top + self.height > high {
+            return Err(Refusal::NotInside);
+        }
+        let n = self.area();
+        if n > room {
+            return Err(Refusal::BufferTooShort);
+        }
+        Ok(n)
     }
 }

@@ -62,13 +62,7 @@ pub fn serve<R: Rows>(
     ensures buffer { buffer.new ≡ filled R.Pixel.ops (R.view rows.old) rect buffer.old }
     ensures same { R.same rows.old rows.new }
 {
-    if rect.left + rect.width > wide || rect.top + rect.height > high {
-        return Err(Refusal::NotInside);
-    }
-    let n = rect.area();
-    if n > buffer.len() {
-        return Err(Refusal::BufferTooShort);
-    }
+    let n = rect.admitted(wide, high, buffer.len())?;
     match fill(rows, rect, buffer) {
         Ok(()) => Ok(()),
         Err(fault) => {
