@@ -8,12 +8,6 @@ use Rattle.picture.proofs.Faults.{first_append, first_same, first_stays, first_m
 use Rattle.picture.proofs.Serving.{next_row, row_end, row_is, shown_more}
 use Rattle.picture.proofs.rows.fill.Goals as goal
 
-pub slice_bounds-row-end : goal.slice_bounds-row-end
-slice_bounds-row-end g c =
-    let r = c.args.rect in
-    let h : c.loop-j.j * r.width + r.width ≤ length c.loop-j.buffer = row_end c.loop-j.j r.width r.height (length c.loop-j.buffer) c.loop-j-test.true (omega arith) in
-    search rules
-
 pub returns-in_err-row : goal.returns-in_err-row
 returns-in_err-row g c =
     let p = err_from_is_err_and c.from_residual.result c.from_residual.ensures.1 in
