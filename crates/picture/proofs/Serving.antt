@@ -1,5 +1,5 @@
 -- A rectangle served row by row.
-use Rattle.std.proofs.Common.{◌≡◌, ℕ, ◌+◌, ◌-◌, ◌*◌, ◌/◌, ◌<◌, ◌≤◌, true, ◌&&◌, leb, List, ◌++◌, map, length, get_or, take, drop, replicate, Some, sym, ap, ◌∙◌, subst, ⊎_elim, mul-le-mul_right, mul_comm, add-mul, one-mul, arith}
+use Rattle.std.proofs.Common.{◌≡◌, ℕ, ◌+◌, ◌-◌, ◌*◌, ◌/◌, ◌<◌, ◌≤◌, true, ◌&&◌, leb, List, ◌++◌, map, length, get_or, take, drop, Some, sym, ap, ◌∙◌, subst, ⊎_elim, mul-le-mul_right, mul_comm, add-mul, one-mul, arith}
 use borrow.Rule.Slice.PartMut.{put_mid, post_of}
 use Rattle.std.proofs.lemmas.List.{get_or_append_left, get_or-append_right, get_or-take, length-take-le, take-append-drop}
 use Rattle.std.proofs.lemmas.Bool.{and_from, le-leb, cond-true, cases_lt}
@@ -7,7 +7,6 @@ use Rattle.std.proofs.lemmas.Nat.{div-mul-add, mod-mul-add}
 use Rattle.std.proofs.lemmas.List.FromFn.{fill_by_all}
 use Rattle.std.specs.List.{range_with_len}
 use Rattle.pixel.specs.Ops.{Ops}
-use Rattle.picture.specs.declared.fault.Fault.{Fault}
 use Rattle.picture.specs.declared.rect.Rect.{Rect}
 use Rattle.picture.specs.Places.{Place, pixel, hole, first_fault}
 use Rattle.picture.specs.Images.{Image}
@@ -89,8 +88,3 @@ module _ {K S : Type 0} (o : Ops K S) where
       = fill_by_all (λ k. code_at o (f k)) (take n new) n 0 (length-take-le n new l) (λ k h. get_or-take n new k 0 h ∙ coded_at (f k) (get_or new k 0) (s k h)) in
       sym (take-append-drop n new) ∙ ap (λ x. x ++ drop n new) t ∙ ap (λ x. map (λ k. code_at o (f k)) (range_with_len 0 n) ++ x) d
       ∙ ap (λ x. put x (λ k. code_at o (f k)) n old) (sym c)
-
-  -- a hole: zeros, and further entries stay
-  pub cleared : (f : ℕ → Place K) (n : ℕ) (e : Fault) (old new : List ℕ) → first_fault f n ≡ Some e → drop n new ≡ drop n old
-      → replicate n 0 ++ drop n new ≡ put (first_fault f n) (λ k. code_at o (f k)) n old
-  cleared f n e old new h d = ap (λ x. replicate n 0 ++ x) d ∙ ap (λ x. put x (λ k. code_at o (f k)) n old) (sym h)
