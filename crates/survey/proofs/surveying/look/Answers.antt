@@ -20,7 +20,6 @@ returns-in-Ok g c =
       codes = λ _. flat_shown g.P.Pixel.Kind.ops i r l t w before c.prepare.new.buffer h c.requires.across c.requires.down c.requires.room c.prepare.ensures.fills e;
       kept = c.prepare.ensures.keeps;
       quick = omega (arith, c.prepare.ensures.counts);
-      sound = c.prepare.ensures.stays;
     }
 
 pub returns-in-Hole : goal.returns-in-Hole
@@ -39,5 +38,4 @@ returns-in-Hole g c =
       codes = λ z. let n : ◌≡◌ {A = ℕ} 0 1 = cc in absurd (omega arith);
       kept = c.prepare.ensures.keeps;
       quick = omega (arith, c.prepare.ensures.counts);
-      sound = c.prepare.ensures.stays;
     }

@@ -17,7 +17,6 @@ loop-place-init g c =
       most = omega arith;
       room = search rules;
       kept = refl;
-      sound = c.requires;
       spent = subst (λ x. Spent 4096 x 0) (sym z) spent_none;
     }
 
@@ -30,7 +29,6 @@ look-requires g c =
     let b : c.min-count.result ≤ s.width * s.height = omega (arith, c.min-count.ensures) in
     let d = row_below c.loop-place.place c.min-count.result s.width s.height s.wide c.loop-place-test.true b in
     record {
-      sound = c.loop-place.invariant.sound;
       wide = c.stretch-n.ensures.some;
       across = omega (arith, c.stretch-n.ensures.row);
       down = omega arith;
@@ -73,7 +71,6 @@ loop-place-preserved-in-Ok g c =
       most = omega (arith, c.min-run.ensures);
       room = omega (arith, c.look.auto.buffer);
       kept = c.look.ensures.kept ∙ c.loop-place.invariant.kept;
-      sound = c.look.ensures.sound;
       spent = spent_pixels c.loop-place.run c.min-run.result n _ _ place c.loop-place.invariant.spent (omega (arith, c.min-run.ensures)) (omega (arith, c.look.ensures.quick)) c.stretch-n.ensures.some;
     }
 
@@ -102,7 +99,6 @@ loop-place-preserved-then-n-eq1 g c =
       most = c.loop-place.invariant.most;
       room = omega (arith, c.look.auto.buffer);
       kept = c.look.ensures.kept ∙ c.loop-place.invariant.kept;
-      sound = c.look.ensures.sound;
       spent = spent_hole c.loop-place.run _ _ place c.loop-place.invariant.spent (omega (arith, c.look.ensures.quick));
     }
 
@@ -117,7 +113,6 @@ loop-place-preserved g c =
       most = omega (arith, c.stretch-n.ensures.run);
       room = omega (arith, c.look.auto.buffer);
       kept = c.look.ensures.kept ∙ c.loop-place.invariant.kept;
-      sound = c.look.ensures.sound;
       spent = spent_half c.loop-place.run n _ _ c.loop-place.place c.loop-place.invariant.spent c.stretch-n.ensures.run two (omega (arith, c.look.ensures.quick));
     }
 
@@ -136,5 +131,4 @@ returns g c =
       law = subst (Account o (reading i) n) (sym v) (account o (λ p. omega (arith, g.met.P.Pixel.Kind.deep p, g.met.P.Pixel.Kind.few.0)) (reading i) n);
       kept = c.loop-place.invariant.kept;
       quick = omega (arith, c.loop-place.invariant.spent.few);
-      sound = c.loop-place.invariant.sound;
     }
