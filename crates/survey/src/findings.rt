@@ -8,7 +8,7 @@ pub struct Range {
 }
 
 /// What the places of a picture are, by number.
-#[derive(Clone, Copy)]
+#[derive(Clone, Copy, PartialEq, Eq, Debug, Default)]
 pub struct Survey {
     /// The places that are pixels.
     pub pixels: u64,
