@@ -1,16 +1,14 @@
 -- A survey goes on by a part of a row.
-use Rattle.std.proofs.Common.{◌≡◌, ℕ, ◌+◌, ◌*◌, ◌/◌, ◌%◌, ◌<◌, ◌≤◌, true, List, length, get_or, take, is_some, Some, Err, sym, ap, ◌∙◌, arith}
+use Rattle.std.proofs.Common.{◌≡◌, ℕ, ◌+◌, ◌*◌, ◌/◌, ◌%◌, ◌<◌, ◌≤◌, true, List, length, get_or, take, is_some, Some, sym, ap, ◌∙◌, arith}
 use Rattle.std.proofs.lemmas.List.{length-take-le, get_or-take}
 use Rattle.std.proofs.lemmas.Nat.{div-mul-add, mod-mul-add, div-add-mod', mul-le}
 use Rattle.pixel.specs.Ops.{Ops}
-use Rattle.picture.specs.declared.fault.Fault.{Fault}
 use Rattle.picture.specs.declared.rect.Rect.{Rect}
-use Rattle.picture.specs.Places.{Place, pixel, hole, fault_of, first_fault}
+use Rattle.picture.specs.Places.{Place, pixel, hole}
 use Rattle.picture.specs.Images.{Image}
-use Rattle.picture.specs.Prepare.{lined, first_in, coded, Shown}
-use Rattle.picture.proofs.Faults.{fault_of_err}
+use Rattle.picture.specs.Prepare.{lined, coded, Shown}
 use Rattle.survey.specs.declared.findings.Survey.{Survey}
-use Rattle.survey.specs.Surveys.{fresh, seen, counted, faulted, reading, noted, onward, surveyed}
+use Rattle.survey.specs.Surveys.{fresh, seen, reading, onward, surveyed}
 use Rattle.survey.proofs.Onward.{seen-onward, onward-append, onward_same}
 
 -- a part of a row in reading order
@@ -32,10 +30,6 @@ part-reading : {K : Type 0} (i j : Image K) (place : ℕ) (r : Rect) (k : ℕ) �
 part-reading i j place r k h l =
     row_reading i place k (omega (arith, h.left, h.fits)) ∙ ap (λ x. lined i x (place / i.width) k) (sym h.left)
     ∙ ap (λ y. lined i r.left y k) (sym h.top) ∙ ap (λ x. lined x r.left r.top k) (sym h.same)
-
-hole_is : {K : Type 0} (x : Place K) (f : Fault) → fault_of x ≡ Some f → x ≡ hole f
-hole_is (pixel p) f e = cc
-hole_is (hole g) f e = cc
 
 -- a picture has not too many places
 pub few : (w h count : ℕ) → w ≤ 65535 → h ≤ 65535 → count ≤ w * h → count ≤ 4294836225
@@ -68,15 +62,6 @@ module _ {K S : Type 0} (o : Ops K S) where
   pixels_more i j place r s t codes h l e c m =
       let f : ℕ → Place K = lined j r.left r.top in
       m f (taken-shown f r.width codes l c) ∙ ap (onward o s f) (length-take-le r.width codes l) ∙ ap (λ x. onward o x f r.width) e ∙ part-surveyed i j place r h
-
-  pub hole_more : (i j : Image K) (place : ℕ) (r : Rect) (s t : Survey) (f : Fault) → Part i j place r → r.width ≡ 1 → s ≡ surveyed o i place
-      → Err f ≡ first_in (lined j r.left r.top) r.width → t ≡ faulted (Some f) (counted f.cause s)
-      → t ≡ surveyed o i (place + 1)
-  hole_more i j place r s t f h l e c m =
-      let at : ℕ → Place K = lined j r.left r.top in
-      let q = hole_is (at 0) f (fault_of_err (first_fault at 1) f (c ∙ ap (first_in at) l)) in
-      m ∙ ap (λ x. faulted (Some f) (counted f.cause x)) e ∙ ap (noted o (surveyed o i place)) (sym q)
-      ∙ ap (onward o (surveyed o i place) at) (sym l) ∙ part-surveyed i j place r h ∙ ap (λ n. surveyed o i (place + n)) l
 
   -- the codes of a part are pixels' codes
   pub taken_some : ((p : K) → o.decode (o.code p) ≡ Some p) → (f : ℕ → Place K) (n : ℕ) (codes : List ℕ) → n ≤ length codes → Shown o f n codes

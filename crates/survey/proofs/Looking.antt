@@ -1,5 +1,5 @@
 -- A prepare of a part of a row.
-use Rattle.std.proofs.Common.{◌≡◌, ℕ, zero, suc, ◌+◌, ◌*◌, ◌/◌, ◌%◌, ◌<◌, ◌≤◌, cond, eqb, List, ◌++◌, map, length, get_or, drop, Some, None, Option, sym, refl, ap, ◌∙◌, ⊎_elim, mod-eq_of_lt, mul-one, arith}
+use Rattle.std.proofs.Common.{◌≡◌, ℕ, zero, suc, ◌+◌, ◌*◌, ◌/◌, ◌%◌, ◌<◌, ◌≤◌, cond, eqb, List, ◌++◌, map, length, get_or, drop, Some, None, Err, Option, Result, sym, refl, ap, ◌∙◌, ⊎_elim, mod-eq_of_lt, mul-one, arith}
 use native.Mathlib.Nat.{div-eq_of_lt}
 use Rattle.std.specs.List.{range_with_len}
 use Rattle.std.proofs.lemmas.List.{get_or_append_left}
@@ -9,12 +9,13 @@ use Rattle.pixel.specs.Ops.{Ops}
 use Rattle.picture.specs.declared.fault.Cause.{Cause}
 use Rattle.picture.specs.declared.fault.Cause.TheVariants.{Missing, Unread, Above, NoPixel}
 use Rattle.picture.specs.declared.fault.Fault.{Fault}
+use Rattle.picture.specs.declared.fault.Refusal.{Refusal}
 use Rattle.picture.specs.declared.fault.Refusal.TheVariants.{Hole}
 use Rattle.picture.specs.declared.rect.Rect.{Rect}
-use Rattle.picture.specs.Refusals.{cause_number, fault_values, done, told}
+use Rattle.picture.specs.Refusals.{cause_number, fault_values, done, outcome, told}
 use Rattle.picture.specs.Places.{Place, pixel, hole, fault_of, or_else, first_fault}
 use Rattle.picture.specs.Images.{Image}
-use Rattle.picture.specs.Prepare.{area, nth, lined, holed, answer, put, code_at, coded, Shown, filled}
+use Rattle.picture.specs.Prepare.{area, nth, lined, first_in, holed, or_fault, answer, put, code_at, coded, Shown, filled}
 use Rattle.picture.proofs.Faults.{first_same}
 use Rattle.picture.proofs.Serving.{answer_is, filled_is}
 
@@ -91,8 +92,10 @@ flat_answer i r n h =
 pub flat_done : {K : Type 0} (i : Image K) (r : Rect) (n : ℕ) → Row i r n → done ≡ answer i r n → first_fault (lined i r.left r.top) r.width ≡ None
 flat_done i r n h e = clean_of_done (first_fault (lined i r.left r.top) r.width) (e ∙ flat_answer i r n h)
 
-pub flat_hole : {K : Type 0} (i : Image K) (r : Rect) (n : ℕ) (f : Fault) → Row i r n → told (Hole f) ≡ answer i r n → first_fault (lined i r.left r.top) r.width ≡ Some f
-flat_hole i r n f h e = fault_of-told (first_fault (lined i r.left r.top) r.width) f (e ∙ flat_answer i r n h)
+pub flat_hole : {K : Type 0} (i : Image K) (r : Rect) (n : ℕ) (a : Result Unit Refusal) (e : Refusal) (f : Fault) → Row i r n → a ≡ Err e → e ≡ Hole f → outcome a ≡ answer i r n
+    → Err f ≡ first_in (lined i r.left r.top) r.width
+flat_hole i r n a e f h p q o =
+    ap or_fault (sym (fault_of-told (first_fault (lined i r.left r.top) r.width) f (ap told (sym q) ∙ ap outcome (sym p) ∙ o ∙ flat_answer i r n h)))
 
 module _ {K S : Type 0} (o : Ops K S) where
   coded_clean : (p : Place K) → fault_of p ≡ None → coded o p ≡ Some (code_at o p)

@@ -1,10 +1,9 @@
 use Rattle.std.proofs.Common.{◌≡◌, ◌-◌, ◌*◌, ◌/◌, ◌%◌, ◌≤◌, min, length, sym, refl, ap, ◌∙◌, subst, arith, rules}
 use Rattle.std.proofs.lemmas.List.{length-take-le}
-use Rattle.picture.specs.Prepare.{lined}
 use Rattle.survey.specs.Surveys.{seen, reading, surveyed, Account}
-use Rattle.survey.proofs.Advance.{Part, few, seen-surveyed, taken_some, pixels_more, hole_more}
+use Rattle.survey.proofs.Advance.{Part, few, seen-surveyed, pixels_more}
 use Rattle.survey.proofs.Accounts.{account}
-use Rattle.survey.proofs.Runs.{Spent, spent_none, spent_pixels, spent_hole, spent_half}
+use Rattle.survey.proofs.Runs.{Spent, spent_none, spent_pixels, spent_half}
 use Rattle.survey.proofs.surveying.survey.Goals as goal
 
 pub loop-place-init : goal.loop-place-init
@@ -20,8 +19,8 @@ loop-place-init g c =
       spent = subst (λ x. Spent 4096 x 0) (sym z) spent_none;
     }
 
-pub note_pixels-requires : goal.note_pixels-requires
-note_pixels-requires g c =
+pub note_pixels-requires-clause-room : goal.note_pixels-requires-clause-room
+note_pixels-requires-clause-room g c =
     let o = g.P.Pixel.Kind.ops in
     let s = c.size-size.result in
     let r = c.part_at-part.result in
@@ -29,10 +28,7 @@ note_pixels-requires g c =
     let l : r.width ≤ length codes = omega (arith, c.look.auto.buffer) in
     let m = few s.width s.height c.min-count.result s.across s.down (omega (arith, c.min-count.ensures)) in
     let e = ap seen c.loop-place.invariant.value ∙ seen-surveyed o (g.P.Picture.model c.args.picture.now).shown c.loop-place.place in
-    record {
-      room = omega (arith, e, m, length-take-le r.width codes l, c.part_at-part.ensures.count);
-      codes = taken_some o g.met.P.Pixel.Kind.decodes (lined (g.P.Picture.model c.loop-place.picture).shown r.left r.top) r.width codes l (c.look.ensures.codes c.in-Ok.is);
-    }
+    omega (arith, e, m, length-take-le r.width codes l, c.part_at-part.ensures.count)
 
 pub loop-place-preserved-in-Ok : goal.loop-place-preserved-in-Ok
 loop-place-preserved-in-Ok g c =
@@ -68,30 +64,6 @@ note_hole-requires g c =
     let e = ap seen c.loop-place.invariant.value ∙ seen-surveyed g.P.Pixel.Kind.ops i c.loop-place.place in
     omega (arith, e, m, c.loop-place-test.true)
 
-pub loop-place-preserved-then-n-eq1 : goal.loop-place-preserved-then-n-eq1
-loop-place-preserved-then-n-eq1 g c =
-    let o = g.P.Pixel.Kind.ops in
-    let i = (g.P.Picture.model c.args.picture.now).shown in
-    let j = (g.P.Picture.model c.loop-place.picture).shown in
-    let place = c.loop-place.place in
-    let r = c.part_at-part.result in
-    let w = c.size-size.ensures.width in
-    let h : Part i j place r = record {
-      same = ap (λ m. m.shown) c.loop-place.invariant.kept;
-      left = c.part_at-part.ensures.left ∙ ap (λ x. place % x) w;
-      top = c.part_at-part.ensures.top ∙ ap (λ x. place / x) w;
-      fits = omega (arith, c.part_at-part.ensures.across);
-    } in
-    record {
-      value = hole_more o i j place r c.loop-place.survey c.note_hole.new.self c.in-Err.fault h c.if-n-eq1.true c.loop-place.invariant.value c.in-Err.ensures.answer c.note_hole.ensures;
-      below = omega (arith, c.loop-place-test.true);
-      least = c.loop-place.invariant.least;
-      most = c.loop-place.invariant.most;
-      room = omega (arith, c.look.auto.buffer);
-      kept = c.look.ensures.kept ∙ c.loop-place.invariant.kept;
-      spent = spent_hole c.loop-place.run _ _ place c.loop-place.invariant.spent (omega (arith, c.look.ensures.quick));
-    }
-
 pub loop-place-preserved : goal.loop-place-preserved
 loop-place-preserved g c =
     let n = c.part_at-part.result.width in
@@ -106,8 +78,8 @@ loop-place-preserved g c =
       spent = spent_half c.loop-place.run n _ _ c.loop-place.place c.loop-place.invariant.spent c.part_at-part.ensures.run two (omega (arith, c.look.ensures.quick));
     }
 
-pub returns : goal.returns
-returns g c =
+pub returns-clause-law : goal.returns-clause-law
+returns-clause-law g c =
     let o = g.P.Pixel.Kind.ops in
     let i = (g.P.Picture.model c.args.picture.now).shown in
     let s = c.size-size.result in
@@ -116,9 +88,4 @@ returns g c =
     c.min-count.ensures ∙ ap (λ x. min c.args.places (x * s.height)) c.size-size.ensures.width ∙ ap (λ x. min c.args.places (i.width * x)) c.size-size.ensures.height in
     let e : c.loop-place.place ≡ n = omega arith in
     let v : c.loop-place.survey ≡ surveyed o i n = c.loop-place.invariant.value ∙ ap (surveyed o i) e in
-    record {
-      value = v;
-      law = subst (Account o (reading i) n) (sym v) (account o (λ p. omega (arith, g.met.P.Pixel.Kind.deep p, g.met.P.Pixel.Kind.few.0)) (reading i) n);
-      kept = c.loop-place.invariant.kept;
-      quick = omega (arith, c.loop-place.invariant.spent.few);
-    }
+    subst (Account o (reading i) n) (sym v) (account o (λ p. omega (arith, g.met.P.Pixel.Kind.deep p, g.met.P.Pixel.Kind.few.0)) (reading i) n)
