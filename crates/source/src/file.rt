@@ -120,8 +120,6 @@ impl<S: Store, K: Kind> Rows for FileSource<S, K> {
 
     ghost view = { λ s. raster_image K.ops (capped (S.at s.store)) s.raster };
 
-    ghost ready = { λ _. Unit {0} };
-
     ghost same = { λ s t. (s.store ≡ t.store) × (s.raster ≡ t.raster) × (s.count ≡ t.count) };
 
     ghost stays = { Prim.search rules };
@@ -150,13 +148,11 @@ impl<S: Store, K: Kind> Picture for FileSource<S, K> {
 
     ghost count = { λ s. s.count };
 
-    ghost sound = { λ _. Unit {0} };
-
     ghost bare = { λ _. Unit {0} };
 
     ghost sized = { Prim.search rules };
 
-    ghost bounded = { λ p h u v a b.
+    ghost bounded = { λ p u v a b.
         let laws : Lawful K.ops = record { coded = K.coded; sampled = K.sampled } in
         raster_bounded K.ops (capped (S.at p.store)) p.raster laws u v };
 

@@ -106,8 +106,6 @@ impl<C: Codes, K: Kind> Rows for MemorySource<C, K> {
 
     ghost view = { λ s. memory_image K.ops (C.codes s.codes) s.size s.source };
 
-    ghost ready = { λ _. Unit {0} };
-
     ghost same = { λ s t. s ≡ t };
 
     ghost stays = { Prim.search rules };
@@ -141,13 +139,11 @@ impl<C: Codes, K: Kind> Picture for MemorySource<C, K> {
 
     ghost count = { λ s. s.count };
 
-    ghost sound = { λ _. Unit {0} };
-
     ghost bare = { λ _. Unit {0} };
 
     ghost sized = { Prim.search rules };
 
-    ghost bounded = { λ p h u v a b. dim_remembered K.ops p.size.maxval _ _ };
+    ghost bounded = { λ p u v a b. dim_remembered K.ops p.size.maxval _ _ };
 
     ghost composed = { Prim.search rules };
 

@@ -39,7 +39,6 @@ returns-in-Err g c =
           (shown_clean o (lined i c.args.left c.args.row) c.loop-done.done c.loop-done.out c.loop-done.invariant.1) a (omega arith);
       shown = λ z. let n : ◌≡◌ {A = ℕ} 0 1 = cc in absurd (omega arith);
       same = (c.loop-done.invariant.2 ∙ sym c.run.ensures.store, c.loop-done.invariant.3 ∙ sym c.run.ensures.raster, c.loop-done.invariant.4 ∙ sym c.run.ensures.count);
-      ready = tt;
     }
 
 pub returns : goal.returns
@@ -54,5 +53,4 @@ returns g c =
       answer = ap or_fault (sym (shown_clean o (lined i c.args.left c.args.row) (length c.args.out.now) c.loop-done.out s));
       shown = λ z. s;
       same = (c.loop-done.invariant.2, c.loop-done.invariant.3, c.loop-done.invariant.4);
-      ready = tt;
     }

@@ -20,7 +20,6 @@ returns-then-not-is_pixel g c =
           (row_hole o codes self.size self.source c.args.left c.args.row c.loop-k.k c.get-code.result c.get-code.ensures (sym c.is_pixel.ensures ∙ c.if-not-is_pixel.true))));
       shown = λ z. let n : ◌≡◌ {A = ℕ} 0 1 = cc in absurd (omega arith);
       same = refl;
-      ready = tt;
     }
 
 pub loop-k-preserved : goal.loop-k-preserved
@@ -41,5 +40,4 @@ returns g c =
       answer = ap or_fault (sym (shown_clean o f (length c.args.out.now) c.loop-k.out s));
       shown = λ z. s;
       same = refl;
-      ready = tt;
     }
