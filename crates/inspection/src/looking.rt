@@ -22,6 +22,8 @@ fn lose(mut survey: Survey, count: u64, fault: Fault) -> Survey
     survey
 }
 
+// That the store has no byte from `end` on is asked three times: a survey promises to keep the picture's model and not its store, so that no ghost field over the file would outlast it.
+
 /// Surveys a file whose store has no byte from `end` on. It prepares only places that may have one, so the work grows with the store and not with the numbers in the header.
 fn look<S: Store, K: Kind>(file: &mut FileSource<S, K>, end: u64) -> Survey
     requires { Silent (capped (S.at file.old.store)) end }

@@ -27,7 +27,7 @@ impl Mark {
 }
 
 /// What is told of a file that is a picture.
-#[derive(Clone, Copy)]
+#[derive(Clone, Copy, PartialEq, Eq, Debug)]
 pub struct Details {
     pub size: Size,
     /// How many bytes the header has.
@@ -39,7 +39,7 @@ pub struct Details {
 }
 
 /// What is told of a file, opened as a picture of the kind with this mark: what the picture is, or why its header was refused.
-#[derive(Clone, Copy)]
+#[derive(Clone, Copy, PartialEq, Eq, Debug)]
 pub struct Report {
     pub mark: Mark,
     pub finding: Result<Details, HeaderError>,

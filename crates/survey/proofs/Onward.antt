@@ -1,12 +1,12 @@
 -- A survey of some places, and then of more.
-use Rattle.std.proofs.Common.{◌≡◌, ℕ, zero, suc, ◌+◌, ◌<◌, List, [], ◌∷◌, length, get_or, Some, Option, sym, refl, ap, ◌∙◌, add-zero, add-suc, add-one, arith}
+use Rattle.std.proofs.Common.{◌≡◌, ℕ, zero, suc, ◌+◌, ◌<◌, List, [], ◌∷◌, length, get_or, Some, None, Option, sym, refl, ap, ◌∙◌, add-zero, add-suc, add-one, arith}
 use Rattle.std.specs.List.{fold, range_with_len}
 use Rattle.std.proofs.lemmas.List.Folds.{fold-map}
 use Rattle.std.proofs.lemmas.List.FromFn.{fill_by_all}
 use Rattle.pixel.specs.Ops.{Ops}
 use Rattle.picture.specs.declared.fault.Cause.{Cause}
 use Rattle.picture.specs.declared.fault.Cause.TheVariants.{Missing, Unread, Above, NoPixel}
-use Rattle.picture.specs.Places.{Place, pixel, hole}
+use Rattle.picture.specs.Places.{Place, pixel, hole, or_else}
 use Rattle.picture.specs.Prepare.{coded}
 use Rattle.survey.specs.declared.findings.Range.{Range}
 use Rattle.survey.specs.declared.findings.Survey.{Survey}
@@ -21,6 +21,10 @@ pub fold-wider : (r : Option Range) (xs : List ℕ) → fold (λ r i. wider r (g
 fold-wider r xs =
     let f : ℕ → ℕ = λ i. get_or xs i 0 in
     sym (fold-map wider f r (range_with_len 0 (length xs))) ∙ ap (fold wider r) (sym (fill_by_all f xs (length xs) 0 refl (λ k h. refl))) ∙ widened-fold r xs
+
+pub or_none : {X : Type 0} (x : Option X) → or_else x None ≡ x
+or_none None = refl
+or_none (Some x) = refl
 
 seen-counted : (c : Cause) (s : Survey) → seen (counted c s) ≡ seen s + 1
 seen-counted Missing s = omega arith

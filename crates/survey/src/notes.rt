@@ -46,6 +46,8 @@ impl Survey {
             .saturating_add(self.no_pixel)
     }
 
+    // What follows asks for room by a premise: the counts are public, so that no ghost field can bound them.
+
     /// Notes one more pixel.
     fn note_pixel<K: Kind>(&mut self, pixel: K)
         requires { seen self.old < 2 ^ 63 }

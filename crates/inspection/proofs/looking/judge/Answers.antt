@@ -3,10 +3,9 @@ use Rattle.store.specs.Cells.{capped}
 use Rattle.picture.specs.declared.size.Size.{Size}
 use Rattle.source.specs.declared.header.Header.{Header}
 use Rattle.source.specs.Files.{raster_image}
-use Rattle.source.specs.Opening.{headed}
 use Rattle.survey.specs.Surveys.{surveyed}
 use Rattle.inspection.specs.Reports.{whole}
-use Rattle.inspection.proofs.Tails.{drawn_same, ok_same}
+use Rattle.inspection.proofs.Tails.{drawn_same}
 use Rattle.inspection.proofs.looking.judge.Goals as goal
 
 abbrev header : Size → ℕ → Header
@@ -25,6 +24,6 @@ returns-in-Ok-clause-found g c =
       λ s e z.
           c.tell.ensures.survey
           ∙ ap (λ t. whole o (capped (g.S.Store.at t)) r) v.0
-          ∙ ap (λ i. surveyed o i (r.size.width * r.size.height)) (drawn_same o at r s (ok_same (headed r) (headed s) (sym v.4 ∙ e)) (v.2 ∙ sym z))
+          ∙ ap (λ i. surveyed o i (r.size.width * r.size.height)) (drawn_same o at r s (cc (v.4, e)) (v.2 ∙ sym z))
           ∙ ap (λ (t : Size). surveyed o (raster_image o at s) (t.width * t.height)) (sym q),
     )
