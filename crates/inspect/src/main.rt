@@ -7,15 +7,17 @@ mod text;
 use inspection::inspect;
 use std::io;
 use std::io::{ErrorKind, Read};
-use text::summary;
+use text::Summary;
 
 /// The summary of what arrives on standard input.
 fn read_and_tell(rt: &HostRuntime) -> io::Result<()> {
     let mut bytes = Vec::new(rt.alloc());
     rt.stdin().read_to_end(&mut bytes)?;
     let bytes = bytes.as_slice();
-    let told = summary(rt.alloc(), bytes, inspect(bytes))?;
-    rt.print(told.as_str())
+    rt.print(Summary {
+        bytes,
+        report: inspect(bytes),
+    })
 }
 
 fn main(rt: HostRuntime) -> io::Result<()> {

@@ -1,7 +1,8 @@
 -- A survey of places that all miss their first byte.
-use Rattle.std.proofs.Common.{◌≡◌, ℕ, zero, suc, ◌+◌, ◌-◌, ◌*◌, ◌/◌, ◌%◌, ◌<◌, ◌≤◌, min, true, cond, leb, Some, None, Ok, Option, Result, sym, refl, ap, ◌∙◌, ⊎_elim, add-zero, mul_comm, div-le_self, arith}
+use Rattle.std.proofs.Common.{◌≡◌, ℕ, zero, suc, ◌+◌, ◌-◌, ◌*◌, ◌/◌, ◌%◌, ◌<◌, ◌≤◌, min, true, cond, leb, Some, None, Option, sym, refl, ap, ◌∙◌, add-zero, mul_comm, div-le_self, arith}
 use native.Mathlib.Nat.{div-add-mod}
-use Rattle.std.proofs.lemmas.Bool.{cases_lt, cond-false, cond-true, le-leb, lt-leb}
+use Rattle.std.proofs.lemmas.Bool.Decides.{nat_tests}
+use Rattle.std.proofs.lemmas.Bool.{le-leb}
 use Rattle.pixel.specs.Ops.{Ops}
 use Rattle.store.specs.Cells.{Cell}
 use Rattle.picture.specs.declared.fault.Cause.TheVariants.{Missing}
@@ -9,7 +10,6 @@ use Rattle.picture.specs.declared.fault.Fault.{Fault}
 use Rattle.picture.specs.Places.{Place, hole, or_else}
 use Rattle.source.specs.declared.raster.Raster.{Raster}
 use Rattle.source.specs.declared.header.Header.{Header}
-use Rattle.source.specs.declared.header.HeaderError.{HeaderError}
 use Rattle.source.specs.Files.{fault_at, pixel_at, pixel_bytes, raster_image}
 use Rattle.source.specs.Opening.{headed}
 use Rattle.picture.specs.Images.{Image}
@@ -17,15 +17,11 @@ use Rattle.source.specs.Extent.{LostBehind, reached}
 use Rattle.survey.specs.declared.findings.Survey.{Survey}
 use Rattle.survey.specs.declared.findings.Range.{Range}
 use Rattle.survey.specs.Surveys.{counted, faulted, fresh, noted, onward, reading, surveyed}
-use Rattle.survey.proofs.Onward.{onward-append}
+use Rattle.survey.proofs.Onward.{onward-append, or_none}
 use Rattle.inspection.specs.Reports.{lost}
 
 abbrev made : ℕ → Option Range → ℕ → ℕ → ℕ → ℕ → Option Fault → Survey
 made p r m u a n f = record { pixels = p; range = r; missing = m; unread = u; above = a; no_pixel = n; first = f }
-
-or_none : (x : Option Fault) → or_else x None ≡ x
-or_none None = refl
-or_none (Some f) = refl
 
 or_twice : (x : Option Fault) (f g : Fault) → or_else (or_else x (Some f)) (Some g) ≡ or_else x (Some f)
 or_twice None f g = refl
@@ -88,13 +84,6 @@ module _ {K S : Type 0} (o : Ops K S) where
   pub drawn_same : (at : ℕ → Cell) (r s : Raster) → headed r ≡ headed s → r.source ≡ s.source → raster_image o at r ≡ raster_image o at s
   drawn_same at r s h e = ap (λ x. drawn at x r.source) h ∙ ap (drawn at (headed s)) e
 
-pub ok_same : (h k : Header) → ◌≡◌ {A = Result Header HeaderError} (Ok h) (Ok k) → h ≡ k
-ok_same h k e = cc
-
 -- no more pixels begin before the end than there are bytes
 pub reached_few : (start end step : ℕ) → reached start end step ≤ end
-reached_few start end step =
-    ⊎_elim
-    (λ lt. let e : reached start end step ≡ (end - start - 1) / step + 1 = cond-false (leb end start) 0 ((end - start - 1) / step + 1) (lt-leb end start lt) in omega (arith, e, div-le_self (end - start - 1) step))
-    (λ le. let e : reached start end step ≡ 0 = cond-true (leb end start) 0 ((end - start - 1) / step + 1) (le-leb end start le) in omega (arith, e))
-    (cases_lt start end)
+reached_few start end step = grind (arith, nat_tests, div-le_self (end - start - 1) step)

@@ -1,5 +1,5 @@
 -- What is told of a file.
-use Rattle.std.specs.Prelude.{◌≡◌, ℕ, ◌+◌, ◌*◌, ◌≤◌, cond, List, length, Some, None, Ok, Err, ◌==◌, nat_le, slice_index}
+use Rattle.std.specs.Prelude.{◌≡◌, ℕ, ◌+◌, ◌*◌, ◌≤◌, cond, List, length, Some, None, Ok, Err, Result, ◌==◌, nat_le, slice_index}
 use Rattle.pixel.specs.Ops.{Ops}
 use Rattle.pixel.specs.Kinds.{grey, colour}
 use Rattle.store.specs.Cells.{Cell, capped}
@@ -8,15 +8,16 @@ use Rattle.picture.specs.declared.fault.Fault.{Fault}
 use Rattle.picture.specs.Places.{or_else}
 use Rattle.source.specs.declared.raster.Raster.{Raster}
 use Rattle.source.specs.Front.{available}
+use Rattle.source.specs.declared.header.HeaderError.{HeaderError}
 use Rattle.source.specs.Header.{header_of}
 use Rattle.source.specs.Limits.{header_limit}
 use Rattle.source.specs.Files.{raster_image}
 use Rattle.source.specs.Opening.{headed}
 use Rattle.survey.specs.declared.findings.Survey.{Survey}
 use Rattle.survey.specs.Surveys.{surveyed}
-use Rattle.inspection.specs.declared.report.Finding.{Finding}
-use Rattle.inspection.specs.declared.report.Finding.TheVariants.{Refused, Picture}
+use Rattle.inspection.specs.declared.report.Details.{Details}
 use Rattle.inspection.specs.declared.report.Report.{Report}
+use Rattle.inspection.specs.Marks.{byte_of}
 
 -- n more holes by a missing byte, the first of them with this fault
 abbrev pub lost : Survey → ℕ → Fault → Survey
@@ -35,22 +36,26 @@ abbrev pub mark_of : List ℕ → ℕ
 mark_of bytes = cond (slice_index bytes 1 == 54) 54 53
 
 module _ {K S : Type 0} (o : Ops K S) where
+  -- the survey of every place
+  abbrev pub whole : (ℕ → Cell) → Raster → Survey
+  whole at r = surveyed o (raster_image o at r) (r.size.width * r.size.height)
+
   -- the header is refused so, or it has these numbers and the survey is that of every place of the picture behind it, as source 0
-  abbrev pub Found : (ℕ → Cell) → Finding → Type 0
-  Found at (Refused e) = header_of o.mark (available at 0 header_limit) ≡ Err e
-  Found at (Picture d) =
+  abbrev pub Found : (ℕ → Cell) → Result Details HeaderError → Type 0
+  Found at (Err e) = header_of o.mark (available at 0 header_limit) ≡ Err e
+  Found at (Ok d) =
       (header_of o.mark (available at 0 header_limit) ≡ Ok (record { width = d.size.width; height = d.size.height; maxval = d.size.maxval; length = d.header }))
       × ((r : Raster) → header_of o.mark (available at 0 header_limit) ≡ Ok (headed r) → r.source ≡ 0
       → d.survey ≡ surveyed o (raster_image o at r) (d.size.width * d.size.height))
 
 -- no more than two prepares were made for each of n bytes, and twelve more
-abbrev pub Quick : ℕ → Finding → Type 0
-Quick n (Refused e) = Unit {0}
-Quick n (Picture d) = d.prepares ≤ 2 * n + 12
+abbrev pub Quick : ℕ → Result Details HeaderError → Type 0
+Quick n (Err e) = Unit {0}
+Quick n (Ok d) = d.prepares ≤ 2 * n + 12
 
 -- by the kind that the second byte says
 pub record Reported (bytes : List ℕ) (r : Report) : Type 0 where
-  pub mark : r.mark ≡ mark_of bytes
-  pub as_grey : r.mark ≡ 53 → Found grey (capped (in_bytes bytes)) r.finding
-  pub as_colour : r.mark ≡ 54 → Found colour (capped (in_bytes bytes)) r.finding
+  pub mark : byte_of r.mark ≡ mark_of bytes
+  pub as_grey : byte_of r.mark ≡ 53 → Found grey (capped (in_bytes bytes)) r.finding
+  pub as_colour : byte_of r.mark ≡ 54 → Found colour (capped (in_bytes bytes)) r.finding
   pub quick : Quick (length bytes) r.finding

@@ -6,4 +6,4 @@ mod looking;
 mod report;
 
 pub use looking::inspect;
-pub use report::{Details, Finding, Report};
+pub use report::{Details, Mark, Report};

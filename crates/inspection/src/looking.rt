@@ -1,14 +1,12 @@
 ghost use Rattle.std.specs.Prelude.{◌≡◌, ℕ, ◌+◌, ◌*◌, ◌^◌, ◌<◌, ◌≤◌};
 ghost use Rattle.store.specs.Cells.{capped};
 ghost use Rattle.source.specs.Extent.{Silent};
-ghost use Rattle.source.specs.Files.{raster_image};
-ghost use Rattle.survey.specs.Surveys.{surveyed};
-ghost use Rattle.inspection.specs.Reports.{Found, Quick, Reported, lost};
+ghost use Rattle.inspection.specs.Reports.{Found, Quick, Reported, lost, whole};
 
-use crate::report::{Details, Finding, Report};
+use crate::report::{Details, Mark, Report};
 use picture::{Cause, Fault, Picture};
 use pixel::{Colour, Grey, Kind};
-use source::{FileSource, read_header};
+use source::{FileSource, HeaderError, read_header};
 use store::{Bytes, Store};
 use survey::{Survey, survey};
 
@@ -18,16 +16,18 @@ fn lose(mut survey: Survey, count: u64, fault: Fault) -> Survey
     ensures { result ≡ lost survey count fault }
 {
     survey.missing += count;
-    if count > 0 && survey.first.is_none() {
-        survey.first = Some(fault);
+    if count > 0 {
+        survey.first = survey.first.or(Some(fault));
     }
     survey
 }
 
+// That the store has no byte from `end` on is asked three times: a survey promises to keep the picture's model and not its store, so that no ghost field over the file would outlast it.
+
 /// Surveys a file whose store has no byte from `end` on. It prepares only places that may have one, so the work grows with the store and not with the numbers in the header.
 fn look<S: Store, K: Kind>(file: &mut FileSource<S, K>, end: u64) -> Survey
     requires { Silent (capped (S.at file.old.store)) end }
-    ensures value { result ≡ surveyed K.ops (raster_image K.ops (capped (S.at file.old.store)) file.old.raster) (file.old.raster.size.width * file.old.raster.size.height) }
+    ensures value { result ≡ whole K.ops (capped (S.at file.old.store)) file.old.raster }
     ensures quick { file.new.count ≤ file.old.count + 2 * end + 12 }
 {
     let raster = file.raster();
@@ -55,7 +55,7 @@ fn tell<S: Store, K: Kind>(file: &mut FileSource<S, K>, end: u64) -> Details
     ensures size { result.size ≡ file.old.raster.size }
     ensures header { result.header ≡ file.old.raster.start }
     ensures prepares { result.prepares ≡ file.new.count }
-    ensures survey { result.survey ≡ surveyed K.ops (raster_image K.ops (capped (S.at file.old.store)) file.old.raster) (file.old.raster.size.width * file.old.raster.size.height) }
+    ensures survey { result.survey ≡ whole K.ops (capped (S.at file.old.store)) file.old.raster }
     ensures quick { result.prepares ≤ file.old.count + 2 * end + 12 }
 {
     let raster = file.raster();
@@ -68,18 +68,16 @@ fn tell<S: Store, K: Kind>(file: &mut FileSource<S, K>, end: u64) -> Details
     }
 }
 
-/// Whether a store that has no byte from `end` on has a picture of this kind, and what is to be told of it.
-fn judge<S: Store + Drop, K: Kind>(store: S, end: u64) -> Finding
+/// What is to be told of a store that has no byte from `end` on, as a picture of this kind, or why its header is refused.
+fn judge<S: Store + Drop, K: Kind>(store: S, end: u64) -> Result<Details, HeaderError>
     requires { Silent (capped (S.at store)) end }
     ensures found { Found K.ops (capped (S.at store)) result }
     ensures quick { Quick end result }
 {
     match FileSource::<S, K>::open(store, 0) {
-        Ok(mut file) => Finding::Picture(tell(&mut file, end)),
-        Err(refused) => match read_header(&refused.back, K::mark()) {
-            Ok(_) => unreachable(),
-            Err(error) => Finding::Refused(error),
-        },
+        Ok(mut file) => Ok(tell(&mut file, end)),
+        // The refusal names no place: the header is read again for the error, which does.
+        Err(refused) => Err(read_header(&refused.back, K::mark()).unwrap_err()),
     }
 }
 
@@ -88,15 +86,14 @@ pub fn inspect(bytes: &[u8]) -> Report
     ensures { Reported bytes.now result }
 {
     let end = bytes.len() as u64;
-    if bytes.len() > 1 && bytes[1] == b'6' {
-        Report {
-            mark: b'6',
+    match bytes {
+        [_, b'6', ..] => Report {
+            mark: Mark::Colour,
             finding: judge::<Bytes, Colour>(Bytes { bytes }, end),
-        }
-    } else {
-        Report {
-            mark: b'5',
+        },
+        _ => Report {
+            mark: Mark::Grey,
             finding: judge::<Bytes, Grey>(Bytes { bytes }, end),
-        }
+        },
     }
 }

@@ -1,9 +1,33 @@
+ghost use Rattle.std.specs.Prelude.{◌≡◌};
+ghost use Rattle.inspection.specs.Marks.{byte_of};
+
 use picture::Size;
 use source::HeaderError;
 use survey::Survey;
 
+/// The mark of a kind of picture: `P` and a digit.
+#[derive(Clone, Copy, PartialEq, Eq, Debug)]
+pub enum Mark {
+    /// `P5`.
+    Grey,
+    /// `P6`.
+    Colour,
+}
+
+impl Mark {
+    /// The second byte.
+    pub fn byte(self) -> u8
+        ensures { result ≡ byte_of self }
+    {
+        match self {
+            Mark::Grey => b'5',
+            Mark::Colour => b'6',
+        }
+    }
+}
+
 /// What is told of a file that is a picture.
-#[derive(Clone, Copy)]
+#[derive(Clone, Copy, PartialEq, Eq, Debug)]
 pub struct Details {
     pub size: Size,
     /// How many bytes the header has.
@@ -14,16 +38,9 @@ pub struct Details {
     pub survey: Survey,
 }
 
-/// Whether a file is a picture.
-#[derive(Clone, Copy)]
-pub enum Finding {
-    Refused(HeaderError),
-    Picture(Details),
-}
-
-/// What is told of a file, opened as a picture of the kind with this mark.
-#[derive(Clone, Copy)]
+/// What is told of a file, opened as a picture of the kind with this mark: what the picture is, or why its header was refused.
+#[derive(Clone, Copy, PartialEq, Eq, Debug)]
 pub struct Report {
-    pub mark: u8,
-    pub finding: Finding,
+    pub mark: Mark,
+    pub finding: Result<Details, HeaderError>,
 }

@@ -9,7 +9,7 @@ use Rattle.picture.specs.Places.{Place, pixel, hole, fault_of, or_else, first_fa
 use Rattle.survey.specs.declared.findings.Range.{Range}
 use Rattle.survey.specs.declared.findings.Survey.{Survey}
 use Rattle.survey.specs.Surveys.{fresh, wider, widened, counted, Between, Ends, is_pixel, is_hole, tally, noted, onward, Occurs, Account}
-use Rattle.survey.proofs.Onward.{seen-onward}
+use Rattle.survey.proofs.Onward.{or_none, seen-onward}
 
 -- a wider range has what the range had
 between_wider : (r : Option Range) (x y : ℕ) → Between r x → Between (wider r y) x
@@ -98,10 +98,6 @@ counted_no_pixel Unread s = omega arith
 counted_no_pixel Above s = omega arith
 counted_no_pixel NoPixel s = refl
 
-or_none : {X : Type 0} (x : Option X) → x ≡ or_else x None
-or_none None = refl
-or_none (Some x) = refl
-
 module _ {K S : Type 0} (o : Ops K S) where
   tally_is : (get : Survey → ℕ) (t : Place K → Bool) → get fresh ≡ 0 → ((s : Survey) (p : Place K) → get (noted o s p) ≡ get s + cond (t p) 1 0)
       → (f : ℕ → Place K) (n : ℕ) → get (onward o fresh f n) ≡ tally t f n
@@ -129,7 +125,7 @@ module _ {K S : Type 0} (o : Ops K S) where
   noted_no_pixel s (hole f) = counted_no_pixel f.cause s
 
   noted_first : (s : Survey) (p : Place K) → (noted o s p).first ≡ or_else s.first (fault_of p)
-  noted_first s (pixel p) = or_none s.first
+  noted_first s (pixel p) = sym (or_none s.first)
   noted_first s (hole f) = ap (λ x. or_else x (Some f)) (counted_first f.cause s)
 
   first_is : (f : ℕ → Place K) (n : ℕ) → (onward o fresh f n).first ≡ first_fault f n

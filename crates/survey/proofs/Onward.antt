@@ -1,18 +1,30 @@
 -- A survey of some places, and then of more.
-use Rattle.std.proofs.Common.{◌≡◌, ℕ, zero, suc, ◌+◌, ◌<◌, List, length, get_or, drop, Some, Option, sym, refl, ap, ◌∙◌, add-zero, add-suc, add-one, arith}
-use Rattle.std.proofs.lemmas.List.{drop_more}
+use Rattle.std.proofs.Common.{◌≡◌, ℕ, zero, suc, ◌+◌, ◌<◌, List, [], ◌∷◌, length, get_or, Some, None, Option, sym, refl, ap, ◌∙◌, add-zero, add-suc, add-one, arith}
+use Rattle.std.specs.List.{fold, range_with_len}
+use Rattle.std.proofs.lemmas.List.Folds.{fold-map}
+use Rattle.std.proofs.lemmas.List.FromFn.{fill_by_all}
 use Rattle.pixel.specs.Ops.{Ops}
 use Rattle.picture.specs.declared.fault.Cause.{Cause}
 use Rattle.picture.specs.declared.fault.Cause.TheVariants.{Missing, Unread, Above, NoPixel}
-use Rattle.picture.specs.Places.{Place, pixel, hole}
+use Rattle.picture.specs.Places.{Place, pixel, hole, or_else}
 use Rattle.picture.specs.Prepare.{coded}
 use Rattle.survey.specs.declared.findings.Range.{Range}
 use Rattle.survey.specs.declared.findings.Survey.{Survey}
 use Rattle.survey.specs.Surveys.{seen, wider, widened, counted, shown, noted, onward}
 
--- one more sample
-pub widen_more : (r s : Option Range) (xs : List ℕ) (i x : ℕ) → i < length xs → s ≡ wider r x → x ≡ get_or xs i 0 → widened s (drop (i + 1) xs) ≡ widened r (drop i xs)
-widen_more r s xs i x h e g = ap (λ z. widened z (drop (i + 1) xs)) (e ∙ ap (wider r) g) ∙ ap (widened r) (sym (drop_more xs i 0 h))
+widened-fold : (r : Option Range) (xs : List ℕ) → fold wider r xs ≡ widened r xs
+widened-fold r [] = refl
+widened-fold r (x ∷ xs) = widened-fold (wider r x) xs
+
+-- the samples by index
+pub fold-wider : (r : Option Range) (xs : List ℕ) → fold (λ r i. wider r (get_or xs i 0)) r (range_with_len 0 (length xs)) ≡ widened r xs
+fold-wider r xs =
+    let f : ℕ → ℕ = λ i. get_or xs i 0 in
+    sym (fold-map wider f r (range_with_len 0 (length xs))) ∙ ap (fold wider r) (sym (fill_by_all f xs (length xs) 0 refl (λ k h. refl))) ∙ widened-fold r xs
+
+pub or_none : {X : Type 0} (x : Option X) → or_else x None ≡ x
+or_none None = refl
+or_none (Some x) = refl
 
 seen-counted : (c : Cause) (s : Survey) → seen (counted c s) ≡ seen s + 1
 seen-counted Missing s = omega arith

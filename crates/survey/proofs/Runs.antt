@@ -25,10 +25,6 @@ pub spent_pixels : (r next n made more place : ℕ) → Spent r made place → n
 spent_pixels r next n made more place s a b h =
     record { e = s.e + 1; short = omega (arith, double s.e, s.short); few = omega (arith, s.few) }
 
--- a hole
-pub spent_hole : (r made more place : ℕ) → Spent r made place → more ≤ made + 1 → Spent r more (place + 1)
-spent_hole r made more place s b = record { e = s.e; short = s.short; few = omega (arith, s.few) }
-
 -- a refusal of more than one place, after which the run is half of them
 pub spent_half : (r n made more place : ℕ) → Spent r made place → n ≤ r → 2 ≤ n → more ≤ made + 1 → Spent (n / 2) more place
 spent_half r n made more place s l h m = half s.e r n made more place s.short s.few l h m

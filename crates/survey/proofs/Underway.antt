@@ -6,7 +6,7 @@ use Rattle.survey.specs.declared.findings.Survey.{Survey}
 use Rattle.survey.specs.Surveys.{surveyed}
 use Rattle.survey.proofs.Runs.{Spent}
 
-module _ {P K S : Type 0} (o : Ops K S) (model : P → Model K) (prepares : P → ℕ) (good : P → Type 0) where
+module _ {P K S : Type 0} (o : Ops K S) (model : P → Model K) (prepares : P → ℕ) where
   -- from p, which is q by now, at a place below the end
   pub record Underway (p q : P) (buffer : List ℕ) (s : Survey) (place end run : ℕ) : Type 0 where
     pub value : s ≡ surveyed o (model p).shown place
@@ -15,5 +15,4 @@ module _ {P K S : Type 0} (o : Ops K S) (model : P → Model K) (prepares : P �
     pub most : run ≤ 4096
     pub room : length buffer ≡ 4096
     pub kept : model q ≡ model p
-    pub sound : good q
     pub spent : Spent run (prepares q - prepares p) place

@@ -8,7 +8,8 @@ pub struct Range {
 }
 
 /// What the places of a picture are, by number.
-#[derive(Clone, Copy)]
+// A field for each cause: an array by its number would be no plainer, since whoever reads a count names the cause.
+#[derive(Clone, Copy, PartialEq, Eq, Debug, Default)]
 pub struct Survey {
     /// The places that are pixels.
     pub pixels: u64,

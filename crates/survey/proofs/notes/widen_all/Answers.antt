@@ -1,17 +1,15 @@
-use Rattle.std.proofs.Common.{◌<◌, ◌≤◌, length, sym, ap, ◌∙◌, arith}
-use Rattle.std.proofs.lemmas.List.{drop_all}
-use Rattle.survey.specs.Surveys.{widened}
-use Rattle.survey.proofs.Onward.{widen_more}
+use Rattle.std.proofs.Common.{◌≡◌, length, get_or, sym, refl, ap, ◌∙◌, arith, rules}
+use Rattle.std.specs.List.{fold, range_with_len}
+use Rattle.std.proofs.lemmas.Iterator.{YieldsList-from_range}
+use Rattle.std.proofs.lemmas.Iterator.Consumers.{fold_from_yields_List}
+use Rattle.survey.specs.Surveys.{wider}
+use Rattle.survey.proofs.Onward.{fold-wider}
 use Rattle.survey.proofs.notes.widen_all.Goals as goal
-
-pub loop-i-preserved : goal.loop-i-preserved
-loop-i-preserved g c =
-    let xs = g.K.Kind.ops.samples c.args.pixel in
-    let h : c.loop-i.i < length xs = omega (arith, g.met.K.Kind.deep c.args.pixel) in
-    widen_more c.loop-i.range c.widen-range.result xs c.loop-i.i c.sample.result h c.widen-range.ensures c.sample.ensures ∙ c.loop-i.invariant
 
 pub returns : goal.returns
 returns g c =
     let xs = g.K.Kind.ops.samples c.args.pixel in
-    let h : length xs ≤ c.loop-i.i = omega (arith, g.met.K.Kind.deep c.args.pixel) in
-    ap (widened c.loop-i.range) (sym (drop_all c.loop-i.i xs h)) ∙ c.loop-i.invariant
+    let n : c.depth.result ≡ length xs = c.depth.ensures ∙ sym (g.met.K.Kind.deep c.args.pixel) in
+    let e : c.fold.result ≡ fold (λ r i. wider r (get_or xs i 0)) c.args.range (range_with_len 0 c.depth.result) =
+    fold_from_yields_List _ (λ r i. wider r (get_or xs i 0)) _ _ c.fold.ensures.ran (YieldsList-from_range 0 c.depth.result c.depth.result refl (omega arith)) (λ a x b q k. search rules) in
+    e ∙ ap (λ k. fold (λ r i. wider r (get_or xs i 0)) c.args.range (range_with_len 0 k)) n ∙ fold-wider c.args.range xs
