@@ -150,9 +150,14 @@ module _ {K : Type 0} (b : Image K) (s : TileShape) (rect : Rect) (len : ℕ) (s
   by_walk : (Q : State → Type 0) → Q (settled (over_tiles b s rect st)) → Q st → Q (prepared b s rect len st)
   by_walk Q h k = cond_both (inside b rect && leb (area rect) len) _ _ Q (λ _. h) (λ _. k)
 
+  once_walked : Once st.tiles → Once (settled (over_tiles b s rect st)).tiles
+  once_walked h = once_settled (over_tiles b s rect st) (along s.slots (whole b s) OnceIn (touched s rect) st h (across s rect * down s rect) (λ k lt v. once_visited s.slots (whole b s) v (touched s rect k)))
+
+  pub once_over : (w : Walk) → w ≡ over_tiles b s rect st → Once st.tiles → Once (settled w).tiles
+  once_over w e h = subst (λ v. Once (settled v).tiles) (sym e) (once_walked h)
+
   pub once_prepared : Once st.tiles → Once (prepared b s rect len st).tiles
-  once_prepared h =
-      by_walk (λ x. Once x.tiles) (once_settled (over_tiles b s rect st) (along s.slots (whole b s) OnceIn (touched s rect) st h (across s rect * down s rect) (λ k lt v. once_visited s.slots (whole b s) v (touched s rect k)))) h
+  once_prepared h = by_walk (λ x. Once x.tiles) (once_walked h) h
 
   pub few_prepared : length st.tiles ≤ s.slots → length (prepared b s rect len st).tiles ≤ s.slots
   few_prepared h =

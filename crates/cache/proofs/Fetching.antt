@@ -116,35 +116,33 @@ module _ {K S : Type 0} (o : Ops K S) (b : Image K) (s : TileShape) (t : Tiles) 
     fetched_err number values h = (sym whole_is ∙ ap not (refuses o b rect buf across down (omega arith) number values h), ready_holding o b s t ready k ys m small)
 
 -- the visit of a tile that is listed, and of one that is not
-module _ {P K S : Type 0} (o : Ops K S) (model : P → Model K) (count : P → ℕ) (sound : P → Type 0) (s : TileShape) (size : Size) (p : P) (t : Tiles) (x : Tile) (stands : Stands o model sound s size p t) where
+module _ {P K S : Type 0} (o : Ops K S) (model : P → Model K) (count : P → ℕ) (s : TileShape) (size : Size) (p : P) (t : Tiles) (x : Tile) (stands : Stands o model s size p t) where
   abbrev visiting : State → Walk
   visiting st = visited s.slots (whole (model p).shown s) st x
 
   pub went_hit : (i : ℕ) (w : Tiles) → w ≡ again t i → i < t.len → same (tile_at t.held i) x ≡ true → ((k : ℕ) → k < i → same (tile_at t.held k) x ≡ false)
-      → Went o model count sound s visiting p t true p w
+      → Went o model count s visiting p t true p w
   went_hit i w is lt at before =
       let b = (model p).shown in
-      subst (Went o model count sound s visiting p t true p) (sym is) (record {
+      subst (Went o model count s visiting p t true p) (sym is) (record {
         machine = hit_machine o b s t stands.ready x i (count p) lt at before;
         keeps = refl;
-        below = stands.below;
         ready = ready_again o b s t stands.ready i lt;
       })
 
   pub went_miss : (q : P) (w : Tiles) (on : Bool) → ((k : ℕ) → k < t.len → same (tile_at t.held k) x ≡ false)
-      → Went o model count sound s (λ st. missed s.slots (whole (model p).shown s) st x) p t on q w → Went o model count sound s visiting p t on q w
+      → Went o model count s (λ st. missed s.slots (whole (model p).shown s) st x) p t on q w → Went o model count s visiting p t on q w
   went_miss q w on h e =
       record {
         machine = miss_machine o (model p).shown s t stands.ready x (walk_of on (state w (count q))) (count p) h e.machine;
         keeps = e.keeps;
-        below = e.below;
         ready = e.ready;
       }
 
 -- the prepare of a tile below
-module _ {P K S : Type 0} (o : Ops K S) (model : P → Model K) (count : P → ℕ) (sound : P → Type 0) (s : TileShape) (size : Size) (p q : P) (t : Tiles) (x : Tile) (stands : Stands o model sound s size p t)
+module _ {P K S : Type 0} (o : Ops K S) (model : P → Model K) (count : P → ℕ) (s : TileShape) (size : Size) (p q : P) (t : Tiles) (x : Tile) (stands : Stands o model s size p t)
     (rect : Rect) (covers : Covers s size.width size.height x rect) (u : x.column * s.width < size.width) (v : x.row * s.height < size.height) (n : ℕ) (a : n ≡ area rect)
-    (ys : List ℕ) (r : Result Unit Refusal) (prep : Prepared o model count sound p rect (part t n) r q ys) (m : length ys ≡ length (part t n)) where
+    (ys : List ℕ) (r : Result Unit Refusal) (prep : Prepared o model count p rect (part t n) r q ys) (m : length ys ≡ length (part t n)) where
   abbrev fetching : State → Walk
   fetching st = missed s.slots (whole (model p).shown s) st x
 
@@ -157,19 +155,18 @@ module _ {P K S : Type 0} (o : Ops K S) (model : P → Model K) (count : P → �
       length-take-le (spare_of t + n - spare_of t) (drop (spare_of t) t.entries)
       (omega (arith, length-drop (spare_of t) t.entries, spare o b s t stands.ready, small_area o b s t stands.ready x rect over, stands.ready.room))
 
-  pub went_ok : (w : Tiles) → w ≡ admitted s.slots x (wrote t n ys) → r ≡ Ok tt → Went o model count sound s fetching p t true q w
+  pub went_ok : (w : Tiles) → w ≡ admitted s.slots x (wrote t n ys) → r ≡ Ok tt → Went o model count s fetching p t true q w
   went_ok w is e =
       let b = (model p).shown in
       let f = fetched_ok o b s t stands.ready x rect (part t n) ys (spare_of t + n - spare_of t) over (omega (arith, stands.wide)) (omega (arith, stands.high)) part_length (m ∙ part_length) (omega arith)
       (ap outcome (sym e) ∙ prep.answers) prep.fills in
-      subst (Went o model count sound s fetching p t true q) (sym is) (record {
+      subst (Went o model count s fetching p t true q) (sym is) (record {
         machine = fetch_machine o b s t stands.ready x (wrote t n ys).entries (count p) (count q) prep.counts f.0;
         keeps = prep.keeps;
-        below = prep.stays;
         ready = subst (λ (k : Model K). Ready o k.shown s (admitted s.slots x (wrote t n ys))) (sym prep.keeps) f.1;
       })
 
-  pub went_err : (z : Refusal) → r ≡ Err z → Went o model count sound s fetching p t false q (wrote t n ys)
+  pub went_err : (z : Refusal) → r ≡ Err z → Went o model count s fetching p t false q (wrote t n ys)
   went_err z e =
       let b = (model p).shown in
       let f = fetched_err o b s t stands.ready x rect (part t n) ys (spare_of t + n - spare_of t) over (omega (arith, stands.wide)) (omega (arith, stands.high)) part_length (m ∙ part_length) (omega arith)
@@ -177,6 +174,5 @@ module _ {P K S : Type 0} (o : Ops K S) (model : P → Model K) (count : P → �
       record {
         machine = refuse_machine o b s t stands.ready x (wrote t n ys).entries (count p) (count q) prep.counts f.0;
         keeps = prep.keeps;
-        below = prep.stays;
         ready = subst (λ (k : Model K). Ready o k.shown s (wrote t n ys)) (sym prep.keeps) f.1;
       }

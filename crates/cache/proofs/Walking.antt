@@ -65,12 +65,12 @@ module _ (slots : ℕ) (whole : Tile → Bool) (f : ℕ → Tile) (s : State) wh
       ap (λ k. walked slots whole f k s) (sym q) ∙ walk_stays n (m - n) st e
 
 -- the walk of a cache, where p and t have become q and u and then v and w
-module _ {P K S : Type 0} (o : Ops K S) (model : P → Model K) (count : P → ℕ) (sound : P → Type 0) (s : TileShape) (f : ℕ → Tile) (p : P) (t : Tiles) where
+module _ {P K S : Type 0} (o : Ops K S) (model : P → Model K) (count : P → ℕ) (s : TileShape) (f : ℕ → Tile) (p : P) (t : Tiles) where
   abbrev pub sofar : ℕ → State → Walk
   sofar k = walked s.slots (whole (model p).shown s) f k
 
-  pub went_more : (q v : P) (u w : Tiles) (k : ℕ) (x : Tile) (on : Bool) → x ≡ f k → Went o model count sound s (sofar k) p t true q u
-      → Went o model count sound s (λ st. visited s.slots (whole (model q).shown s) st x) q u on v w → Went o model count sound s (sofar (k + 1)) p t on v w
+  pub went_more : (q v : P) (u w : Tiles) (k : ℕ) (x : Tile) (on : Bool) → x ≡ f k → Went o model count s (sofar k) p t true q u
+      → Went o model count s (λ st. visited s.slots (whole (model q).shown s) st x) q u on v w → Went o model count s (sofar (k + 1)) p t on v w
   went_more q v u w k x on e a h =
       let b = (model p).shown in
       let st = state u (count q) in
@@ -79,16 +79,14 @@ module _ {P K S : Type 0} (o : Ops K S) (model : P → Model K) (count : P → �
       record {
         machine = sym (walk_more s.slots (whole b s) f (state t (count p)) k st (walk_of on (state w (count v))) (sym a.machine) m);
         keeps = h.keeps ∙ a.keeps;
-        below = h.below;
         ready = h.ready;
       }
 
-  pub went_ended : (v : P) (w : Tiles) (k n : ℕ) → k ≤ n → Went o model count sound s (sofar k) p t false v w → Went o model count sound s (sofar n) p t false v w
+  pub went_ended : (v : P) (w : Tiles) (k n : ℕ) → k ≤ n → Went o model count s (sofar k) p t false v w → Went o model count s (sofar n) p t false v w
   went_ended v w k n le h =
       record {
         machine = sym (walk_ends s.slots (whole (model p).shown s) f (state t (count p)) k n (state w (count v)) le (sym h.machine));
         keeps = h.keeps;
-        below = h.below;
         ready = h.ready;
       }
 

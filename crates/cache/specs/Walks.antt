@@ -28,18 +28,16 @@ module _ {K S : Type 0} (o : Ops K S) where
   Served b s r to n = (x y : ℕ) → Within r x y → (y / s.height - r.top / s.height) * across s r + (x / s.width - r.left / s.width) < n
       → coded o (b.at x y) ≡ Some (slice_index to (spot r x y))
 
-module _ {P K S : Type 0} (o : Ops K S) (model : P → Model K) (sound : P → Type 0) (s : TileShape) where
+module _ {P K S : Type 0} (o : Ops K S) (model : P → Model K) (s : TileShape) where
   -- what a visit needs: `size` is that of the picture below
   pub record Stands (size : Size) (p : P) (t : Tiles) : Type 0 where
-    pub below : sound p
     pub ready : Ready o (model p).shown s t
     pub wide : size.width ≡ (model p).shown.width
     pub high : size.height ≡ (model p).shown.height
 
-module _ {P K S : Type 0} (o : Ops K S) (model : P → Model K) (count : P → ℕ) (sound : P → Type 0) (s : TileShape) where
+module _ {P K S : Type 0} (o : Ops K S) (model : P → Model K) (count : P → ℕ) (s : TileShape) where
   -- the picture below p and the slots t have become q and u; w is what the machine makes of their state
   pub record Went (w : State → Walk) (p : P) (t : Tiles) (on : Bool) (q : P) (u : Tiles) : Type 0 where
     pub machine : walk_of on (state u (count q)) ≡ w (state t (count p))
     pub keeps : model q ≡ model p
-    pub below : sound q
     pub ready : Ready o (model q).shown s u

@@ -16,13 +16,13 @@ returns-in-Ok g c =
     let t = c.args.tiles.now in
     let x = c.args.tile in
     let ys = c.prepare.new.buffer in
-    let w = went_ok _ _ _ _ c.args.shape _ _ _ t x c.requires.stands c.cell-rect.result c.cell-rect.ensures c.requires.across c.requires.down c.area-n.result c.area-n.ensures ys _ c.prepare.ensures c.prepare.auto.buffer c.admit.new.tiles c.admit.ensures c.in-Ok.is in
+    let w = went_ok _ _ _ c.args.shape _ _ _ t x c.requires.stands c.cell-rect.result c.cell-rect.ensures c.requires.across c.requires.down c.area-n.result c.area-n.ensures ys _ c.prepare.ensures c.prepare.auto.buffer c.admit.new.tiles c.admit.ensures c.in-Ok.is in
     record { went = w; front = λ q. front_admitted _ _ _ t c.requires.stands.ready x (wrote t c.area-n.result ys).entries c.admit.new.tiles c.admit.ensures }
 
 pub returns-in-Err : goal.returns-in-Err
 returns-in-Err g c =
     record {
-      went = went_err _ _ _ _ c.args.shape _ _ _ c.args.tiles.now c.args.tile c.requires.stands c.cell-rect.result c.cell-rect.ensures c.requires.across c.requires.down c.area-n.result c.area-n.ensures c.prepare.new.buffer _
+      went = went_err _ _ _ c.args.shape _ _ _ c.args.tiles.now c.args.tile c.requires.stands c.cell-rect.result c.cell-rect.ensures c.requires.across c.requires.down c.area-n.result c.area-n.ensures c.prepare.new.buffer _
           c.prepare.ensures c.prepare.auto.buffer c.in-Err.field-0 c.in-Err.is;
       front = λ q. let z : ◌≡◌ {A = ℕ} 0 1 = cc in absurd (omega arith);
     }

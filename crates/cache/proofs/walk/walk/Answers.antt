@@ -14,7 +14,6 @@ visit-requires g c =
     let q = kth c.args.shape c.args.rect c.loop-k.k _ _ c.reach-across.ensures.is c.reach-down.ensures.is c.loop-k-test.true c.reach-across.ensures.some in
     record {
       stands = record {
-        below = w.below;
         ready = w.ready;
         wide = c.requires.stands.wide ∙ ap (λ (m : Model g.row.P-Pixel.Denot). m.shown.width) (sym w.keeps);
         high = c.requires.stands.high ∙ ap (λ (m : Model g.row.P-Pixel.Denot). m.shown.height) (sym w.keeps);
@@ -49,9 +48,9 @@ returns-then-not-visit g c =
     let n = c.reach-across.result in
     let x : Tile = record { column = rect.left / s.width + k % n; row = rect.top / s.height + k / n } in
     let q = kth s rect k n _ c.reach-across.ensures.is c.reach-down.ensures.is c.loop-k-test.true c.reach-across.ensures.some in
-    let w = went_more _ _ _ _ s (touched s rect) c.args.below.now c.args.tiles.now c.loop-k.below c.visit.new.below c.loop-k.tiles c.visit.new.tiles k x false q.is c.loop-k.invariant.0 c.if-not-visit.ensures.went in
+    let w = went_more _ _ _ s (touched s rect) c.args.below.now c.args.tiles.now c.loop-k.below c.visit.new.below c.loop-k.tiles c.visit.new.tiles k x false q.is c.loop-k.invariant.0 c.if-not-visit.ensures.went in
     record {
-      went = went_ended _ _ _ _ s (touched s rect) c.args.below.now c.args.tiles.now c.visit.new.below c.visit.new.tiles (k + 1) (across s rect * down s rect) q.next w;
+      went = went_ended _ _ _ s (touched s rect) c.args.below.now c.args.tiles.now c.visit.new.below c.visit.new.tiles (k + 1) (across s rect * down s rect) q.next w;
       served = λ h. let z : ◌≡◌ {A = ℕ} 0 1 = cc in absurd (omega arith);
       rest = c.loop-k.invariant.2;
     }
@@ -66,7 +65,7 @@ loop-k-preserved g c =
     let n = c.reach-across.result in
     let x : Tile = record { column = rect.left / s.width + k % n; row = rect.top / s.height + k / n } in
     let q = kth s rect k n _ c.reach-across.ensures.is c.reach-down.ensures.is c.loop-k-test.true c.reach-across.ensures.some in
-    let w = went_more _ _ _ _ s (touched s rect) c.args.below.now c.args.tiles.now c.loop-k.below c.visit.new.below c.loop-k.tiles c.visit.new.tiles k x true q.is c.loop-k.invariant.0 c.if-not-visit.ensures.went in
+    let w = went_more _ _ _ s (touched s rect) c.args.below.now c.args.tiles.now c.loop-k.below c.visit.new.below c.loop-k.tiles c.visit.new.tiles k x true q.is c.loop-k.invariant.0 c.if-not-visit.ensures.went in
     let ready : Ready o b s c.visit.new.tiles = subst (λ (m : Model g.row.P-Pixel.Denot). Ready o m.shown s c.visit.new.tiles) w.keeps w.ready in
     let covers = covers_in s _ _ _ _ x c.cell-place.result c.requires.stands.wide c.requires.stands.high c.cell-place.ensures in (
       w,

@@ -7,6 +7,6 @@ use Rattle.cache.proofs.walk.walk.Given as goal
 
 abbrev pub invariant-loop-k : goal.invariant-loop-k
 invariant-loop-k g l =
-    Went g.P.Pixel.Kind.ops g.P.Picture.model g.P.Picture.count g.P.Picture.sound l.shape (walked l.shape.slots (whole (g.P.Picture.model l.initial.below).shown l.shape) (touched l.shape l.rect) l.k) l.initial.below l.initial.tiles true l.below l.tiles
+    Went g.P.Pixel.Kind.ops g.P.Picture.model g.P.Picture.count l.shape (walked l.shape.slots (whole (g.P.Picture.model l.initial.below).shown l.shape) (touched l.shape l.rect) l.k) l.initial.below l.initial.tiles true l.below l.tiles
     × Served g.P.Pixel.Kind.ops (g.P.Picture.model l.initial.below).shown l.shape l.rect l.buffer l.k
     × Beyond l.rect l.initial.buffer l.buffer

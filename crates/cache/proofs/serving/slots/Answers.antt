@@ -2,7 +2,7 @@ use Rattle.std.proofs.Common.{◌<◌, ◌≢◌, length, ap, ◌∙◌, arith, 
 use Rattle.std.proofs.lemmas.List.{length-set, get_or-set_same, get_or-set_other}
 use Rattle.cache.specs.declared.held.Held.{Held}
 use Rattle.cache.specs.Order.{none}
-use Rattle.cache.proofs.cache.slots.Goals as goal
+use Rattle.cache.proofs.serving.slots.Goals as goal
 
 pub loop-i-preserved : goal.loop-i-preserved
 loop-i-preserved c =
