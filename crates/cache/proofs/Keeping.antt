@@ -13,7 +13,8 @@ use Rattle.cache.specs.declared.held.Held.{Held}
 use Rattle.cache.specs.declared.shape.TileShape.{TileShape}
 use Rattle.cache.specs.declared.tile.Tile.{Tile}
 use Rattle.cache.specs.declared.tiles.Tiles.{Tiles}
-use Rattle.cache.specs.Order.{none, slot_at, promoted}
+use Rattle.cache.specs.Machine.{Once}
+use Rattle.cache.specs.Order.{none, slot_at, promoted, listed}
 use Rattle.cache.specs.Grid.{Covers, tile_width, tile_height, tile_place}
 use Rattle.cache.specs.Slots.{base, again, entered, admitted, holding, Good, Ready}
 
@@ -61,6 +62,14 @@ within a k j xs ys n le h = search (rules, places)
 
 length_mid : (a k : ℕ) (xs ys : List ℕ) → length ys ≡ k → a + k ≤ length xs → length (put_mid a k xs ys) ≡ length xs
 length_mid a k xs ys n le = search (rules, places)
+
+pub small_area : (s : TileShape) (W H : ℕ) (x : Tile) (rect : Rect) → Covers s W H x rect → area rect ≤ 256
+small_area s W H x rect covers = omega (arith, mul-le rect.width rect.height s.width s.height (omega (arith, covers.width)) (omega (arith, covers.height)), s.small)
+
+-- what the type of a cache says of its slots
+pub record Kept {K S : Type 0} (o : Ops K S) (b : Image K) (s : TileShape) (t : Tiles) : Type 0 where
+  pub ready : Ready o b s t
+  pub once : Once (listed t.held t.len)
 
 module _ {K S : Type 0} (o : Ops K S) (b : Image K) (s : TileShape) where
   -- a place of a tile has its entry inside the tile's slot
@@ -144,15 +153,12 @@ module _ {K S : Type 0} (o : Ops K S) (b : Image K) (s : TileShape) where
         }
 
     module _ (x : Tile) (rect : Rect) (covers : Covers s b.width b.height x rect) where
-      pub small_area : area rect ≤ 256
-      small_area = omega (arith, mul-le rect.width rect.height s.width s.height (omega (arith, covers.width)) (omega (arith, covers.height)), s.small)
-
       -- what was prepared into the spare slot
       pub fresh : (k : ℕ) (ys : List ℕ) → k ≡ area rect → length ys ≡ k → Shown o (nth b rect) (area rect) ys
           → Good o b s (put_mid (base (slot_at t.held t.len)) k t.entries ys) (entered t x)
       fresh k ys e n shown u v lu lv =
           let w = tile_width b s x in
-          let a : base (slot_at t.held t.len) + k ≤ length t.entries = omega (arith, spare, ready.room, small_area) in
+          let a : base (slot_at t.held t.len) + k ≤ length t.entries = omega (arith, spare, ready.room, small_area s b.width b.height x rect covers) in
           let lu' : u < rect.width = omega (arith, covers.width) in
           let lv' : v < rect.height = omega (arith, covers.height) in
           let m : v * rect.width + u < area rect = mul-add-lt v rect.width u rect.height lv' lu' in

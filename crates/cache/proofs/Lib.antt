@@ -1,10 +1,9 @@
-mod Moving
 mod Listing
 mod Pixels
 mod Keeping
+mod Accounting
 mod Fetching
 mod Overlaying
 mod Walking
-mod Accounting
 mod Preparing
 mod Recent

@@ -1,5 +1,6 @@
 -- The entries of a cell, laid over those of a rectangle.
-use Rattle.std.proofs.Common.{◌≡◌, ℕ, ◌+◌, ◌-◌, ◌*◌, ◌/◌, ◌%◌, ◌<◌, ◌≤◌, min, max, List, get_or, sym, ap, ◌∙◌, add_assoc, mul-le-mul_right, mul_comm, add-mul, one-mul, arith}
+use Rattle.std.proofs.Common.{◌≡◌, ℕ, ◌+◌, ◌-◌, ◌*◌, ◌/◌, ◌%◌, ◌<◌, ◌≤◌, min, max, List, get_or, drop, sym, ap, ◌∙◌, mul-le-mul_right, mul_comm, add-mul, one-mul, arith}
+use Rattle.std.proofs.lemmas.List.{get_or-drop}
 use Rattle.std.proofs.lemmas.Nat.{mul-add-lt, div-mul-add, mod-mul-add}
 use Rattle.picture.specs.declared.rect.Rect.{Rect}
 use Rattle.cache.specs.Boxes.{Copied, Others, spot, Overlaid}
@@ -19,14 +20,14 @@ place_of u v p i j lu li e = (
   sym (mod-mul-add v p u lu) ∙ ap (λ n. n % p) e ∙ mod-mul-add j p i li,
 )
 
-module _ (from : List ℕ) (start : ℕ) (cell rect : Rect) (was to : List ℕ) (left right top bottom : ℕ)
+module _ (from : List ℕ) (cell rect : Rect) (was to : List ℕ) (left right top bottom : ℕ)
     (el : left ≡ max cell.left rect.left) (er : right ≡ min (cell.left + cell.width) (rect.left + rect.width))
     (et : top ≡ max cell.top rect.top) (eb : bottom ≡ min (cell.top + cell.height) (rect.top + rect.height))
     (some : left < right) (any : top < bottom) where
-  pub overlaid : Copied from (start + ((top - cell.top) * cell.width + (left - cell.left))) cell.width to ((top - rect.top) * rect.width + (left - rect.left)) rect.width (right - left) (bottom - top)
+  pub overlaid : (part : List ℕ) → part ≡ drop ((top - cell.top) * cell.width + (left - cell.left)) from → Copied part cell.width to ((top - rect.top) * rect.width + (left - rect.left)) rect.width (right - left) (bottom - top)
       → Others was to ((top - rect.top) * rect.width + (left - rect.left)) rect.width (right - left) (bottom - top)
-      → Overlaid from start cell rect was to
-  overlaid copied others =
+      → Overlaid from cell rect was to
+  overlaid part is copied others =
       record {
         inside = λ x y wc wr.
             let ly : y - top < bottom - top = omega (arith, wc.top, wc.bottom, wr.top, wr.bottom) in
@@ -34,10 +35,11 @@ module _ (from : List ℕ) (start : ℕ) (cell rect : Rect) (was to : List ℕ) 
             let e : (top - rect.top) * rect.width + (left - rect.left) + ((y - top) * rect.width + (x - left)) ≡ spot rect x y =
             shifted (top - rect.top) (y - top) (left - rect.left) (x - left) rect.width
             ∙ ap (λ n. n * rect.width + (left - rect.left + (x - left))) (omega (arith, wc.top, wr.top)) ∙ ap (λ n. (y - rect.top) * rect.width + n) (omega (arith, wc.left, wr.left)) in
-            let f : start + ((top - cell.top) * cell.width + (left - cell.left)) + ((y - top) * cell.width + (x - left)) ≡ start + spot cell x y =
-            add_assoc start _ _ ∙ ap (λ n. start + n) (shifted (top - cell.top) (y - top) (left - cell.left) (x - left) cell.width
-            ∙ ap (λ n. n * cell.width + (left - cell.left + (x - left))) (omega (arith, wc.top, wr.top)) ∙ ap (λ n. (y - cell.top) * cell.width + n) (omega (arith, wc.left, wr.left))) in
-            ap (λ n. get_or to n 0) (sym e) ∙ copied (y - top) ly (x - left) lx ∙ ap (λ n. get_or from n 0) f;
+            let corner = (top - cell.top) * cell.width + (left - cell.left) in
+            let f : corner + ((y - top) * cell.width + (x - left)) ≡ spot cell x y =
+            shifted (top - cell.top) (y - top) (left - cell.left) (x - left) cell.width
+            ∙ ap (λ n. n * cell.width + (left - cell.left + (x - left))) (omega (arith, wc.top, wr.top)) ∙ ap (λ n. (y - cell.top) * cell.width + n) (omega (arith, wc.left, wr.left)) in
+            ap (λ n. get_or to n 0) (sym e) ∙ copied (y - top) ly (x - left) lx ∙ ap (λ l. get_or l ((y - top) * cell.width + (x - left)) 0) is ∙ get_or-drop corner from ((y - top) * cell.width + (x - left)) 0 ∙ ap (λ n. get_or from n 0) f;
         outside = λ x y none wr. others (spot rect x y) (λ j lj i li e.
             let lu : x - rect.left < rect.width = omega (arith, wr.left, wr.right) in
             let lv : left - rect.left + i < rect.width = omega arith in

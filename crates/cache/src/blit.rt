@@ -18,7 +18,6 @@ fn copy_row(from: &[u64], start: usize, to: &mut [u64], at: usize, n: usize)
 /// Copies a box of `wide` by `high` entries, whose rows begin each `stride` further, and where they go each `pitch` further.
 fn blit(
     from: &[u64],
-    start: usize,
     stride: usize,
     to: &mut [u64],
     at: usize,
@@ -27,21 +26,21 @@ fn blit(
     high: usize,
 )
     requires wide { wide ≤ pitch }
-    requires from { (j : ℕ) → j < high → start + (j * stride + wide) ≤ length from.now }
+    requires from { (j : ℕ) → j < high → j * stride + wide ≤ length from.now }
     requires to { (j : ℕ) → j < high → at + (j * pitch + wide) ≤ length to.old }
-    ensures copied { Copied from.now start stride to.new at pitch wide high }
+    ensures copied { Copied from.now stride to.new at pitch wide high }
     ensures others { Others to.old to.new at pitch wide high }
 {
     for j in 0..high {
-        copy_row(from, start + j * stride, to, at + j * pitch, wide);
+        copy_row(from, j * stride, to, at + j * pitch, wide);
     }
 }
 
 /// Copies to a rectangle's entries those of a cell, where the two have places in common.
-pub fn overlay(from: &[u64], start: usize, cell: Rect, rect: Rect, to: &mut [u64])
-    requires from { start + area cell ≤ length from.now }
+pub fn overlay(from: &[u64], cell: Rect, rect: Rect, to: &mut [u64])
+    requires from { area cell ≤ length from.now }
     requires to { area rect ≤ length to.old }
-    ensures { Overlaid from.now start cell rect to.old to.new }
+    ensures { Overlaid from.now cell rect to.old to.new }
 {
     let left = cell.left.max(rect.left);
     let right = (cell.left + cell.width).min(rect.left + rect.width);
@@ -50,10 +49,10 @@ pub fn overlay(from: &[u64], start: usize, cell: Rect, rect: Rect, to: &mut [u64
     if left < right && top < bottom {
         let stride = cell.width as usize;
         let pitch = rect.width as usize;
-        let corner = start + ((top - cell.top) as usize * stride + (left - cell.left) as usize);
+        let corner = (top - cell.top) as usize * stride + (left - cell.left) as usize;
         let at = (top - rect.top) as usize * pitch + (left - rect.left) as usize;
         let wide = (right - left) as usize;
         let high = (bottom - top) as usize;
-        blit(from, corner, stride, to, at, pitch, wide, high);
+        blit(&from[corner..], stride, to, at, pitch, wide, high);
     }
 }

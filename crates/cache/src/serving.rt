@@ -1,52 +1,15 @@
-ghost use Rattle.std.specs.Prelude.{◌≡◌, ℕ, ◌<◌, length};
+ghost use Rattle.std.specs.Prelude.{◌≡◌, length};
 ghost use Rattle.picture.specs.Prepare.{Prepared, Forgot};
-ghost use Rattle.cache.specs.Limits.{slot_count};
 ghost use Rattle.cache.specs.Machine.{counts_of};
-ghost use Rattle.cache.specs.Order.{slot_at};
-ghost use Rattle.cache.specs.Slots.{Unused};
 ghost use Rattle.cache.specs.Caching.{Made, Worked, Emptied, Bare, model_of, state_of};
 ghost use Rattle.std.proofs.Common.{rules};
 
 use crate::cache::Cache;
 use crate::counts::Counts;
-use crate::held::Held;
-use crate::limits::{ENTRIES, SLOTS};
 use crate::shape::TileShape;
-use crate::tile::Tile;
 use crate::tiles::Tiles;
-use crate::visit::more;
-use crate::walk::walk;
 use picture::{Picture, Rect, Refusal, Size};
 use pixel::Kind;
-
-/// Each slot in its own place.
-fn slots() -> [Held; SLOTS]
-    ensures long { length result ≡ slot_count }
-    ensures own { (i : ℕ) → i < slot_count → slot_at result i ≡ i }
-{
-    let tile = Tile { column: 0, row: 0 };
-    let mut held = [Held { tile, slot: 0 }; SLOTS];
-    for i in 0..SLOTS {
-        held[i] = Held {
-            tile,
-            slot: i as u32,
-        };
-    }
-    held
-}
-
-fn unused() -> Tiles
-    ensures { Unused result }
-{
-    Tiles {
-        held: slots(),
-        len: 0,
-        entries: [0; ENTRIES],
-        hits: 0,
-        fetches: 0,
-        bypasses: 0,
-    }
-}
 
 impl<P: Picture> Cache<P> {
     /// A cache with nothing in it yet.
@@ -56,7 +19,7 @@ impl<P: Picture> Cache<P> {
         Cache {
             below,
             shape,
-            tiles: unused(),
+            tiles: Tiles::new(),
             count: 0,
         }
     }
@@ -72,11 +35,7 @@ impl<P: Picture> Cache<P> {
     pub fn counts(&self) -> Counts
         ensures { result ≡ counts_of (state_of P.count self.now) }
     {
-        Counts {
-            hits: self.tiles.hits,
-            fetches: self.tiles.fetches,
-            bypasses: self.tiles.bypasses,
-        }
+        self.tiles.counts
     }
 }
 
@@ -104,7 +63,7 @@ impl<P: Picture> Picture for Cache<P> {
         ensures prepared { Prepared P.Pixel.ops (model_of P.model) (λ c. c.count) self.old rect buffer.old result self.new buffer.new }
         ensures worked { Worked P.model P.count self.old rect (length buffer.old) self.new }
     {
-        self.count = more(self.count);
+        self.count = self.count.saturating_add(1);
         let size = self.below.size();
         if rect.left + rect.width > size.width || rect.top + rect.height > size.height {
             return Err(Refusal::NotInside);
@@ -112,11 +71,11 @@ impl<P: Picture> Picture for Cache<P> {
         if rect.area() > buffer.len() {
             return Err(Refusal::BufferTooShort);
         }
-        let shape = self.shape;
-        if walk(&mut self.below, shape, size, &mut self.tiles, rect, buffer) {
+        if self.walk(size, rect, buffer).is_ok() {
             return Ok(());
         }
-        self.tiles.bypasses = more(self.tiles.bypasses);
+        let bypasses = &mut self.tiles.counts.bypasses;
+        *bypasses = bypasses.saturating_add(1);
         self.below.prepare(rect, buffer)
     }
 
