@@ -1,7 +1,8 @@
 -- The slots stay right: a tile moves to the front, the spare slot is written, a tile is listed.
-use Rattle.std.proofs.Common.{◌≡◌, ℕ, zero, suc, ◌+◌, ◌*◌, ◌/◌, ◌<◌, ◌≤◌, min, cond, ltb, ◌⊎◌, List, length, get_or, set, Some, sym, refl, ap, ◌∙◌, subst, inl, inr, ⊎_elim, add-one, arith, rules}
+use Rattle.std.proofs.Common.{◌≡◌, ℕ, zero, suc, ◌+◌, ◌*◌, ◌/◌, ◌<◌, ◌≤◌, min, cond, ltb, ◌⊎◌, List, length, get_or, set, Some, sym, refl, ap, ◌∙◌, subst, inl, inr, ⊎_elim, add-one, arith}
 use borrow.Rule.Slice.PartMut.{put_mid}
-use Rattle.std.proofs.lemmas.List.{places, get_or-set_same, get_or-set_other, length-set}
+use Rattle.cache.proofs.Parts.{outside, within, length_mid}
+use Rattle.std.proofs.lemmas.List.{get_or-set_same, get_or-set_other, length-set}
 use Rattle.std.proofs.lemmas.List.Edits.{get_or-remove_below, get_or-remove_above, length-remove}
 use Rattle.std.proofs.lemmas.Bool.{cond-true, cond-false, cases_lt, cases_eq, lt-ltb, le-ltb}
 use Rattle.std.proofs.lemmas.Nat.{mul-le, mul-add-lt, div-mul-add, mod-mul-add}
@@ -53,15 +54,6 @@ get_or-promoted hs i (suc k) lt =
 
 length-promoted : (hs : List Held) (i : ℕ) → i < length hs → length (promoted hs i) ≡ length hs
 length-promoted hs i lt = omega (arith, length-remove hs i lt)
-
-outside : (a k j : ℕ) (xs ys : List ℕ) → length ys ≡ k → a + k ≤ length xs → (j < a) ⊎ (a + k ≤ j) → get_or (put_mid a k xs ys) j 0 ≡ get_or xs j 0
-outside a k j xs ys n le h = ⊎_elim (λ (l : j < a). search (rules, places)) (λ (l : a + k ≤ j). search (rules, places)) h
-
-within : (a k j : ℕ) (xs ys : List ℕ) → length ys ≡ k → a + k ≤ length xs → j < k → get_or (put_mid a k xs ys) (a + j) 0 ≡ get_or ys j 0
-within a k j xs ys n le h = search (rules, places)
-
-length_mid : (a k : ℕ) (xs ys : List ℕ) → length ys ≡ k → a + k ≤ length xs → length (put_mid a k xs ys) ≡ length xs
-length_mid a k xs ys n le = search (rules, places)
 
 pub small_area : (s : TileShape) (W H : ℕ) (x : Tile) (rect : Rect) → Covers s W H x rect → area rect ≤ 256
 small_area s W H x rect covers = omega (arith, mul-le rect.width rect.height s.width s.height (omega (arith, covers.width)) (omega (arith, covers.height)), s.small)

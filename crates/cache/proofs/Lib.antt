@@ -1,3 +1,4 @@
+mod Parts
 mod Listing
 mod Pixels
 mod Keeping

@@ -4,15 +4,13 @@ use Rattle.picture.specs.declared.rect.Rect.{Rect}
 use Rattle.picture.specs.Prepare.{area}
 use Rattle.picture.specs.Region.{Within}
 
--- a box is `wide` by `high` entries; its rows begin each `stride` further, or at `at` and each `pitch` further
-abbrev pub Copied : List ℕ → ℕ → List ℕ → ℕ → ℕ → ℕ → ℕ → Type 0
-Copied from stride to at pitch wide high =
-    (j : ℕ) → j < high → (i : ℕ) → i < wide → slice_index to (at + (j * pitch + i)) ≡ slice_index from (j * stride + i)
+-- a box is `wide` by `high` entries; its rows begin each `stride` further, or each `pitch` further
+abbrev pub Copied : List ℕ → ℕ → List ℕ → ℕ → ℕ → ℕ → Type 0
+Copied from stride to pitch wide high = (j : ℕ) → j < high → (i : ℕ) → i < wide → slice_index to (j * pitch + i) ≡ slice_index from (j * stride + i)
 
 -- what lies outside the box is as it was
-abbrev pub Others : List ℕ → List ℕ → ℕ → ℕ → ℕ → ℕ → Type 0
-Others was to at pitch wide high =
-    (k : ℕ) → ((j : ℕ) → j < high → (i : ℕ) → i < wide → k ≢ at + (j * pitch + i)) → slice_index to k ≡ slice_index was k
+abbrev pub Others : List ℕ → List ℕ → ℕ → ℕ → ℕ → Type 0
+Others was to pitch wide high = (k : ℕ) → ((j : ℕ) → j < high → (i : ℕ) → i < wide → k ≢ j * pitch + i) → slice_index to k ≡ slice_index was k
 
 -- a place's number in a rectangle, in reading order
 abbrev pub spot : Rect → ℕ → ℕ → ℕ
