@@ -4,10 +4,10 @@ use Rattle.store.specs.Reads.{answer}
 use Rattle.source.specs.Header.{run}
 use Rattle.cache.specs.declared.shape.TileShape.{TileShape}
 use Rattle.cache.specs.Shapes.{ShapeMade}
-use Rattle.samples.specs.Samples.{RefusedBy5}
+use Rattle.cache.specs.Samples.{refused_by5}
 use Rattle.samples.proofs.table.samples_stand.Goals as goal
 
-no_seventeen : (w h : ℕ) (r : Result TileShape Refusal) → ShapeMade w h 17 r → RefusedBy5 r
+no_seventeen : (w h : ℕ) (r : Result TileShape Refusal) → ShapeMade w h 17 r → refused_by5 r
 no_seventeen w h (Ok s) m = omega (arith, m.2, s.few)
 no_seventeen w h (Err e) m = m.1
 
@@ -27,7 +27,7 @@ returns c = record {
   relieved = refl;
   cut = refl;
   flipped = refl;
-  passed = (refl, refl, refl, refl);
+  passed = (refl, refl, refl, refl, refl);
   singles = (refl, refl, refl, refl);
   seventeen = no_seventeen;
   fits = refl;
