@@ -29,18 +29,18 @@ lists-take zero ts u e = refl
 lists-take (suc n) [] u e = refl
 lists-take (suc n) (x ∷ xs) u e = let w = parts (same x u) (lists xs u) e in cond-false (same x u) true _ w.0 ∙ lists-take n xs u w.1
 
-gone : (ts : List Tile) (t : Tile) → Once ts → lists (without ts t) t ≡ false
+pub gone : (ts : List Tile) (t : Tile) → Once ts → lists (without ts t) t ≡ false
 gone [] t h = refl
 gone (x ∷ xs) t h =
     cond_both (same x t) xs (x ∷ without xs t) (λ l. lists l t ≡ false)
     (λ e. subst (λ u. lists xs u ≡ false) (same_is x t e) h.0)
     (λ e. cond-false (same x t) true _ e ∙ gone xs t h.1)
 
-once_without : (ts : List Tile) (t : Tile) → Once ts → Once (without ts t)
+pub once_without : (ts : List Tile) (t : Tile) → Once ts → Once (without ts t)
 once_without [] t h = tt
 once_without (x ∷ xs) t h = cond_both (same x t) xs (x ∷ without xs t) Once (λ _. h.1) (λ _. (lists-without xs t x h.0, once_without xs t h.1))
 
-once_take : (n : ℕ) (ts : List Tile) → Once ts → Once (take n ts)
+pub once_take : (n : ℕ) (ts : List Tile) → Once ts → Once (take n ts)
 once_take zero ts h = tt
 once_take (suc n) [] h = tt
 once_take (suc n) (x ∷ xs) h = (lists-take n xs x h.0, once_take n xs h.1)
@@ -150,9 +150,11 @@ module _ {K : Type 0} (b : Image K) (s : TileShape) (rect : Rect) (len : ℕ) (s
   by_walk : (Q : State → Type 0) → Q (settled (over_tiles b s rect st)) → Q st → Q (prepared b s rect len st)
   by_walk Q h k = cond_both (inside b rect && leb (area rect) len) _ _ Q (λ _. h) (λ _. k)
 
+  once_walked : Once st.tiles → Once (settled (over_tiles b s rect st)).tiles
+  once_walked h = once_settled (over_tiles b s rect st) (along s.slots (whole b s) OnceIn (touched s rect) st h (across s rect * down s rect) (λ k lt v. once_visited s.slots (whole b s) v (touched s rect k)))
+
   pub once_prepared : Once st.tiles → Once (prepared b s rect len st).tiles
-  once_prepared h =
-      by_walk (λ x. Once x.tiles) (once_settled (over_tiles b s rect st) (along s.slots (whole b s) OnceIn (touched s rect) st h (across s rect * down s rect) (λ k lt v. once_visited s.slots (whole b s) v (touched s rect k)))) h
+  once_prepared h = by_walk (λ x. Once x.tiles) (once_walked h) h
 
   pub few_prepared : length st.tiles ≤ s.slots → length (prepared b s rect len st).tiles ≤ s.slots
   few_prepared h =

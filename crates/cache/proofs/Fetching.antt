@@ -1,29 +1,32 @@
 -- A tile that is visited: a hit, a fetch, or a refusal.
-use Rattle.std.proofs.Common.{◌≡◌, ℕ, ◌+◌, ◌-◌, ◌*◌, ◌/◌, ◌%◌, ◌<◌, ◌≤◌, min, Bool, true, false, not, ◌⊎◌, List, length, take, drop, is_some, Ok, Err, Result, sym, refl, ap, ◌∙◌, subst, inl, inr, ⊎_elim, arith}
+use Rattle.std.proofs.Common.{◌≡◌, ℕ, ◌+◌, ◌-◌, ◌*◌, ◌/◌, ◌%◌, ◌<◌, ◌≤◌, min, true, false, not, ◌⊎◌, List, ◌∷◌, length, take, drop, is_some, Some, None, Option, Ok, Err, Result, sym, refl, ap, ◌∙◌, subst, inl, inr, ⊎_elim, arith}
+use Rattle.std.specs.List.{position}
 use borrow.Rule.Slice.PartMut.{put_mid}
 use Rattle.std.proofs.lemmas.List.{get_or-set_same, length-take-le, length-drop}
 use Rattle.std.proofs.lemmas.Bool.{cond-true, cond-false, cases_lt}
 use Rattle.pixel.specs.Ops.{Ops}
 use Rattle.picture.specs.declared.fault.Refusal.{Refusal}
 use Rattle.picture.specs.declared.rect.Rect.{Rect}
-use Rattle.picture.specs.declared.size.Size.{Size}
 use Rattle.picture.specs.Refusals.{done, refused, outcome, number_of, values_of}
 use Rattle.picture.specs.Places.{first_fault}
 use Rattle.picture.specs.Images.{Image, Model}
 use Rattle.picture.specs.Prepare.{up, area, nth, answer, filled, Prepared}
 use Rattle.picture.proofs.Faults.{first_same}
+use Rattle.cache.specs.declared.cache.Cache.{Cache}
 use Rattle.cache.specs.declared.held.Held.{Held}
 use Rattle.cache.specs.declared.shape.TileShape.{TileShape}
 use Rattle.cache.specs.declared.tile.Tile.{Tile}
 use Rattle.cache.specs.declared.tiles.Tiles.{Tiles}
-use Rattle.cache.specs.Machine.{State, Walk, going, ended, same, lists, missed, visited}
-use Rattle.cache.specs.Order.{none, tile_at, slot_at, listed}
+use Rattle.cache.specs.Machine.{State, Walk, going, ended, same, lists, missed, visited, Once}
+use Rattle.cache.specs.Order.{none, slot_at, listed}
 use Rattle.cache.specs.Grid.{Covers, tile_width, tile_nth, whole}
 use Rattle.cache.specs.Slots.{base, state, again, entered, admitted, holding, Front, Ready}
-use Rattle.cache.specs.Walks.{walk_of, Stands, Went}
-use Rattle.cache.proofs.Listing.{same_is, listed-hit, listed_miss, listed-fetched}
+use Rattle.cache.specs.Caching.{state_of}
+use Rattle.cache.specs.Visits.{walk_of, Went}
+use Rattle.cache.proofs.Listing.{Listed, listed-hit, listed_miss, listed-fetched}
+use Rattle.cache.proofs.Accounting.{gone, once_without, once_take}
 use Rattle.cache.proofs.Pixels.{answered, refuses}
-use Rattle.cache.proofs.Keeping.{long, spare, ready_again, ready_holding, ready_admitted, fresh, small_area}
+use Rattle.cache.proofs.Keeping.{long, spare, ready_again, ready_holding, ready_admitted, fresh, small_area, Kept}
 
 -- states that differ in the list and below's count
 stated : (ts ts' : List Tile) (h f y a a' : ℕ) → ts ≡ ts' → a ≡ a'
@@ -31,63 +34,42 @@ stated : (ts ts' : List Tile) (h f y a a' : ℕ) → ts ≡ ts' → a ≡ a'
 stated ts ts' h f y a a' p q =
     ap (λ x. record { tiles = x; hits = h; fetches = f; bypasses = y; asked = a }) p ∙ ap (λ x. record { tiles = ts'; hits = h; fetches = f; bypasses = y; asked = x }) q
 
--- the entries of the spare slot, as far as a tile of n places needs them
-abbrev pub spare_of : Tiles → ℕ
-spare_of t = base (slot_at t.held t.len)
-
-abbrev pub part : Tiles → ℕ → List ℕ
-part t n = take (spare_of t + n - spare_of t) (drop (spare_of t) t.entries)
-
--- the slots when these are written
-abbrev pub wrote : Tiles → ℕ → List ℕ → Tiles
-wrote t n ys = holding t (put_mid (spare_of t) (spare_of t + n - spare_of t) t.entries ys)
-
--- in a picture of the same size
-pub covers_in : (s : TileShape) (W H W' H' : ℕ) (x : Tile) (rect : Rect) → W ≡ W' → H ≡ H' → Covers s W H x rect → Covers s W' H' x rect
-covers_in s W H W' H' x rect p q h = subst (λ w. Covers s w H' x rect) p (subst (λ v. Covers s W v x rect) q h)
-
 module _ {K S : Type 0} (o : Ops K S) (b : Image K) (s : TileShape) (t : Tiles) (ready : Ready o b s t) (x : Tile) where
   room : t.len ≤ length t.held
   room = omega (arith, long o b s t ready)
 
-  hit_machine : (i asked : ℕ) → i < t.len → same (tile_at t.held i) x ≡ true → ((k : ℕ) → k < i → same (tile_at t.held k) x ≡ false)
-      → going (state (again t i) asked) ≡ visited s.slots (whole b s) (state t asked) x
-  hit_machine i asked lt at before =
-      let w = listed-hit t.held t.len x room i lt at before in
-      ap going (stated _ _ _ _ _ _ _ w.1 refl) ∙ sym (cond-true (lists (listed t.held t.len) x) _ _ w.0)
+  hit_machine : (i asked : ℕ) → Listed t.held t.len x i → going (state (again t i) asked) ≡ visited s.slots (whole b s) (state t asked) x
+  hit_machine i asked l = ap going (stated _ _ _ _ _ _ _ l.moved refl) ∙ sym (cond-true (lists (listed t.held t.len) x) _ _ l.lists)
 
-  miss_machine : (w : Walk) (asked : ℕ) → ((k : ℕ) → k < t.len → same (tile_at t.held k) x ≡ false)
-      → w ≡ missed s.slots (whole b s) (state t asked) x
+  miss_machine : (w : Walk) (asked : ℕ) → lists (listed t.held t.len) x ≡ false → w ≡ missed s.slots (whole b s) (state t asked) x
       → w ≡ visited s.slots (whole b s) (state t asked) x
-  miss_machine w asked h e = e ∙ sym (cond-false (lists (listed t.held t.len) x) _ _ (listed_miss t.held t.len x room h))
+  miss_machine w asked h e = e ∙ sym (cond-false (lists (listed t.held t.len) x) _ _ h)
+
+  fetch_list : (es : List ℕ) → listed (admitted s.slots x (holding t es)).held (admitted s.slots x (holding t es)).len ≡ take s.slots (x ∷ listed t.held t.len)
+  fetch_list es =
+      let new : (min (t.len + 1) s.slots ≡ t.len + 1) ⊎ ((min (t.len + 1) s.slots ≡ s.slots) × (t.len ≡ s.slots)) =
+      ⊎_elim (λ (l : t.len < s.slots). inl (omega arith)) (λ (l : s.slots ≤ t.len). inr (omega (arith, ready.few), omega (arith, ready.few))) (cases_lt t.len s.slots) in
+      listed-fetched t.held t.len x room (entered t x) s.slots (min (t.len + 1) s.slots) (long o b s t ready) ready.few refl new (omega arith)
 
   fetch_machine : (es : List ℕ) (asked asked' : ℕ) → asked' ≡ up asked → whole b s x ≡ true
       → going (state (admitted s.slots x (holding t es)) asked') ≡ missed s.slots (whole b s) (state t asked) x
-  fetch_machine es asked asked' e w =
-      let new : (min (t.len + 1) s.slots ≡ t.len + 1) ⊎ ((min (t.len + 1) s.slots ≡ s.slots) × (t.len ≡ s.slots)) =
-      ⊎_elim (λ (l : t.len < s.slots). inl (omega arith)) (λ (l : s.slots ≤ t.len). inr (omega (arith, ready.few), omega (arith, ready.few))) (cases_lt t.len s.slots) in
-      ap going (stated _ _ _ _ _ _ _ (listed-fetched t.held t.len x room (entered t x) s.slots (min (t.len + 1) s.slots) (long o b s t ready) ready.few refl new (omega arith)) e)
-      ∙ sym (cond-true (whole b s x) _ _ w)
+  fetch_machine es asked asked' e w = ap going (stated _ _ _ _ _ _ _ (fetch_list es) e) ∙ sym (cond-true (whole b s x) _ _ w)
 
   refuse_machine : (es : List ℕ) (asked asked' : ℕ) → asked' ≡ up asked → whole b s x ≡ false
       → ended (state (holding t es) asked') ≡ missed s.slots (whole b s) (state t asked) x
   refuse_machine es asked asked' e w = ap ended (stated _ _ _ _ _ _ _ refl e) ∙ sym (cond-false (whole b s x) _ _ w)
-
-  pub front_again : (i : ℕ) (w : Tiles) → w ≡ again t i → i < t.len → same (tile_at t.held i) x ≡ true → Front w x
-  front_again i w is lt at = subst (λ v. Front v x) (sym is) (record { some = omega arith; at = same_is _ _ at })
 
   pub front_admitted : (es : List ℕ) (w : Tiles) → w ≡ admitted s.slots x (holding t es) → Front w x
   front_admitted es w is =
       let e = get_or-set_same t.held t.len (entered t x) none (long o b s t ready) in
       subst (λ v. Front v x) (sym is) (record { some = omega (arith, s.some); at = ap (λ (h : Held). h.tile) e })
 
-  module _ (rect : Rect) (buf ys : List ℕ) (k : ℕ) (covers : Covers s b.width b.height x rect) (u : x.column * s.width < b.width) (v : x.row * s.height < b.height)
-      (n : length buf ≡ k) (m : length ys ≡ k) (a : k ≡ area rect) where
+  module _ (rect : Rect) (buf : List ℕ) (k : ℕ) (covers : Covers s b.width b.height x rect) (n : length buf ≡ k) (a : k ≡ area rect) where
     across : rect.left + rect.width ≤ b.width
-    across = omega (arith, covers.left, covers.width)
+    across = omega (arith, covers.left, covers.width, rect.wide)
 
     down : rect.top + rect.height ≤ b.height
-    down = omega (arith, covers.top, covers.height)
+    down = omega (arith, covers.top, covers.height, rect.high)
 
     whole_is : not (is_some (first_fault (nth b rect) (area rect))) ≡ whole b s x
     whole_is =
@@ -99,84 +81,127 @@ module _ {K S : Type 0} (o : Ops K S) (b : Image K) (s : TileShape) (t : Tiles) 
         ∙ ap (λ q. first_fault (tile_nth b s x) (q * rect.height)) covers.width
         ∙ ap (λ q. first_fault (tile_nth b s x) (w * q)) covers.height)
 
-    small : k ≤ 256
-    small = omega (arith, small_area o b s t ready x rect covers)
-
-    fetched_ok : done ≡ answer b rect (length buf) → ys ≡ filled o b rect buf
+    fetched_ok : (ys : List ℕ) → length ys ≡ k → done ≡ answer b rect (length buf) → ys ≡ filled o b rect buf
         → (whole b s x ≡ true) × Ready o b s (admitted s.slots x (holding t (put_mid (base (slot_at t.held t.len)) k t.entries ys)))
-    fetched_ok h e =
+    fetched_ok ys m h e =
         let es : List ℕ = put_mid (base (slot_at t.held t.len)) k t.entries ys in
+        let small : k ≤ 256 = omega (arith, small_area s b.width b.height x rect covers) in
         let w = answered o b rect buf across down (omega arith) ys h e in (
           sym whole_is ∙ ap (λ f. not (is_some f)) w.0,
           ready_admitted o b s (holding t es) (ready_holding o b s t ready k ys m small) x (fresh o b s t ready x rect covers k ys a m w.1),
         )
 
-    fetched_err : (number : ℕ) (values : List ℕ) → refused number values ≡ answer b rect (length buf)
-        → (whole b s x ≡ false) × Ready o b s (holding t (put_mid (base (slot_at t.held t.len)) k t.entries ys))
-    fetched_err number values h = (sym whole_is ∙ ap not (refuses o b rect buf across down (omega arith) number values h), ready_holding o b s t ready k ys m small)
+    fetched_err : (number : ℕ) (values : List ℕ) → refused number values ≡ answer b rect (length buf) → whole b s x ≡ false
+    fetched_err number values h = sym whole_is ∙ ap not (refuses o b rect buf across down (omega arith) number values h)
 
--- the visit of a tile that is listed, and of one that is not
-module _ {P K S : Type 0} (o : Ops K S) (model : P → Model K) (count : P → ℕ) (sound : P → Type 0) (s : TileShape) (size : Size) (p : P) (t : Tiles) (x : Tile) (stands : Stands o model sound s size p t) where
+pub none_of : (r : Option ℕ) → ((i : ℕ) → r ≡ Some i → ⊥) → r ≡ None
+none_of None h = refl
+none_of (Some i) h = absurd (h i refl)
+
+-- the slots when these entries are written
+abbrev pub wrote : Tiles → ℕ → ℕ → List ℕ → Tiles
+wrote t start end ys = holding t (put_mid start (end - start) t.entries ys)
+
+module _ {P K S : Type 0} {g : _} {h : _} (o : Ops K S) (model : P → Model K) (count : P → ℕ) (c : Cache P K S g h) (ready : Ready o (model c.below).shown c.shape c.tiles) (x : Tile) where
+  abbrev image : Image K
+  image = (model c.below).shown
+
   abbrev visiting : State → Walk
-  visiting st = visited s.slots (whole (model p).shown s) st x
+  visiting st = visited c.shape.slots (whole image c.shape) st x
 
-  pub went_hit : (i : ℕ) (w : Tiles) → w ≡ again t i → i < t.len → same (tile_at t.held i) x ≡ true → ((k : ℕ) → k < i → same (tile_at t.held k) x ≡ false)
-      → Went o model count sound s visiting p t true p w
-  went_hit i w is lt at before =
-      let b = (model p).shown in
-      subst (Went o model count sound s visiting p t true p) (sym is) (record {
-        machine = hit_machine o b s t stands.ready x i (count p) lt at before;
-        keeps = refl;
-        below = stands.below;
-        ready = ready_again o b s t stands.ready i lt;
-      })
+  abbrev place : Option ℕ
+  place = position (λ t. same t x) (listed c.tiles.held c.tiles.len)
 
-  pub went_miss : (q : P) (w : Tiles) (on : Bool) → ((k : ℕ) → k < t.len → same (tile_at t.held k) x ≡ false)
-      → Went o model count sound s (λ st. missed s.slots (whole (model p).shown s) st x) p t on q w → Went o model count sound s visiting p t on q w
-  went_miss q w on h e =
-      record {
-        machine = miss_machine o (model p).shown s t stands.ready x (walk_of on (state w (count q))) (count p) h e.machine;
-        keeps = e.keeps;
-        below = e.below;
-        ready = e.ready;
-      }
+  -- the visit of a tile that is listed
+  module _ (i : ℕ) (is : place ≡ Some i) where
+    here : Listed c.tiles.held c.tiles.len x i
+    here = listed-hit c.tiles.held c.tiles.len x (room o image c.shape c.tiles ready x) i is
 
--- the prepare of a tile below
-module _ {P K S : Type 0} (o : Ops K S) (model : P → Model K) (count : P → ℕ) (sound : P → Type 0) (s : TileShape) (size : Size) (p q : P) (t : Tiles) (x : Tile) (stands : Stands o model sound s size p t)
-    (rect : Rect) (covers : Covers s size.width size.height x rect) (u : x.column * s.width < size.width) (v : x.row * s.height < size.height) (n : ℕ) (a : n ≡ area rect)
-    (ys : List ℕ) (r : Result Unit Refusal) (prep : Prepared o model count sound p rect (part t n) r q ys) (m : length ys ≡ length (part t n)) where
-  abbrev fetching : State → Walk
-  fetching st = missed s.slots (whole (model p).shown s) st x
+    pub within : i < 17
+    within = omega (arith, here.below, ready.few, c.shape.few)
 
-  over : Covers s (model p).shown.width (model p).shown.height x rect
-  over = covers_in s _ _ _ _ x rect stands.wide stands.high covers
+    pub kept_hit : (w : Tiles) → w ≡ again c.tiles i → Kept o image c.shape w
+    kept_hit w e =
+        let ts = listed c.tiles.held c.tiles.len in
+        subst (Kept o image c.shape) (sym e) (record {
+          ready = ready_again o image c.shape c.tiles ready i here.below;
+          once = subst Once (sym here.moved) (gone ts x c.once, once_without ts x c.once);
+        })
 
-  part_length : length (part t n) ≡ spare_of t + n - spare_of t
-  part_length =
-      let b = (model p).shown in
-      length-take-le (spare_of t + n - spare_of t) (drop (spare_of t) t.entries)
-      (omega (arith, length-drop (spare_of t) t.entries, spare o b s t stands.ready, small_area o b s t stands.ready x rect over, stands.ready.room))
+    pub front_hit : (w : Tiles) → w ≡ again c.tiles i → Front w x
+    front_hit w e = subst (λ v. Front v x) (sym e) (record { some = omega (arith, here.below); at = here.at })
 
-  pub went_ok : (w : Tiles) → w ≡ admitted s.slots x (wrote t n ys) → r ≡ Ok tt → Went o model count sound s fetching p t true q w
-  went_ok w is e =
-      let b = (model p).shown in
-      let f = fetched_ok o b s t stands.ready x rect (part t n) ys (spare_of t + n - spare_of t) over (omega (arith, stands.wide)) (omega (arith, stands.high)) part_length (m ∙ part_length) (omega arith)
-      (ap outcome (sym e) ∙ prep.answers) prep.fills in
-      subst (Went o model count sound s fetching p t true q) (sym is) (record {
-        machine = fetch_machine o b s t stands.ready x (wrote t n ys).entries (count p) (count q) prep.counts f.0;
-        keeps = prep.keeps;
-        below = prep.stays;
-        ready = subst (λ (k : Model K). Ready o k.shown s (admitted s.slots x (wrote t n ys))) (sym prep.keeps) f.1;
-      })
+    pub went_hit : (d : Cache P K S g h) → d.below ≡ c.below → d.shape ≡ c.shape → d.tiles ≡ again c.tiles i → d.count ≡ c.count → Went model count visiting c (Ok tt) d
+    went_hit d eb es et ec =
+        record {
+          machine = ap (λ p. going (state d.tiles (count p))) eb ∙ ap (λ t. going (state t (count c.below))) et ∙ hit_machine o image c.shape c.tiles ready x i (count c.below) here;
+          keeps = ap model eb;
+          shape = es;
+          counted = ec;
+        }
 
-  pub went_err : (z : Refusal) → r ≡ Err z → Went o model count sound s fetching p t false q (wrote t n ys)
-  went_err z e =
-      let b = (model p).shown in
-      let f = fetched_err o b s t stands.ready x rect (part t n) ys (spare_of t + n - spare_of t) over (omega (arith, stands.wide)) (omega (arith, stands.high)) part_length (m ∙ part_length) (omega arith)
-      (number_of z) (values_of z) (ap outcome (sym e) ∙ prep.answers) in
-      record {
-        machine = refuse_machine o b s t stands.ready x (wrote t n ys).entries (count p) (count q) prep.counts f.0;
-        keeps = prep.keeps;
-        below = prep.stays;
-        ready = subst (λ (k : Model K). Ready o k.shown s (wrote t n ys)) (sym prep.keeps) f.1;
-      }
+  -- the visit of one that is not, for whose rectangle below was prepared
+  module _ (is : place ≡ None) (rect : Rect) (covers : Covers c.shape image.width image.height x rect) (start end : ℕ) (es : start ≡ base (slot_at c.tiles.held c.tiles.len)) (ee : end ≡ start + area rect)
+      (q : P) (r : Result Unit Refusal) (ys : List ℕ) (prep : Prepared o model count c.below rect (take (end - start) (drop start c.tiles.entries)) r q ys) (m : length ys ≡ length (take (end - start) (drop start c.tiles.entries))) where
+    not_listed : lists (listed c.tiles.held c.tiles.len) x ≡ false
+    not_listed = listed_miss c.tiles.held c.tiles.len x (room o image c.shape c.tiles ready x) is
+
+    fits : end ≤ length c.tiles.entries
+    fits = omega (arith, spare o image c.shape c.tiles ready, small_area c.shape image.width image.height x rect covers, ready.room)
+
+    part_length : length (take (end - start) (drop start c.tiles.entries)) ≡ end - start
+    part_length = length-take-le (end - start) (drop start c.tiles.entries) (omega (arith, length-drop start c.tiles.entries, fits))
+
+    small : end - start ≤ 256
+    small = omega (arith, small_area c.shape image.width image.height x rect covers)
+
+    kept_below : (w : Tiles) → Ready o image c.shape w → Once (listed w.held w.len) → Kept o (model q).shown c.shape w
+    kept_below w r h = record { ready = subst (λ (i : Model K). Ready o i.shown c.shape w) (sym prep.keeps) r; once = h }
+
+    written : Ready o image c.shape (wrote c.tiles start end ys)
+    written =
+        subst (λ a. Ready o image c.shape (holding c.tiles (put_mid a (end - start) c.tiles.entries ys))) (sym es) (ready_holding o image c.shape c.tiles ready (end - start) ys (m ∙ part_length) small)
+
+    pub kept_err : Kept o (model q).shown c.shape (wrote c.tiles start end ys)
+    kept_err = kept_below (wrote c.tiles start end ys) written c.once
+
+    -- `a` is what the visit answers
+    pub went_err : (e : Refusal) → r ≡ Err e → (a : Result Unit Refusal) → a ≡ Err e → (d : Cache P K S g h) → d.below ≡ q → d.shape ≡ c.shape → d.tiles ≡ wrote c.tiles start end ys → d.count ≡ c.count
+        → Went model count visiting c a d
+    went_err e is a ea d eb eh et ec =
+        let f = fetched_err o image c.shape c.tiles ready x rect (take (end - start) (drop start c.tiles.entries)) (end - start) covers part_length (omega arith)
+        (number_of e) (values_of e) (ap outcome (sym is) ∙ prep.answers) in
+        record {
+          machine = ap (λ w. walk_of w (state_of count d)) ea ∙ ap (λ p. ended (state d.tiles (count p))) eb ∙ ap (λ t. ended (state t (count q))) et
+              ∙ miss_machine o image c.shape c.tiles ready x _ (count c.below) not_listed (refuse_machine o image c.shape c.tiles ready x (wrote c.tiles start end ys).entries (count c.below) (count q) prep.counts f);
+          keeps = ap model eb ∙ prep.keeps;
+          shape = eh;
+          counted = ec;
+        }
+
+    module _ (ok : r ≡ Ok tt) where
+      full : (whole image c.shape x ≡ true) × Ready o image c.shape (admitted c.shape.slots x (wrote c.tiles start end ys))
+      full =
+          let f = fetched_ok o image c.shape c.tiles ready x rect (take (end - start) (drop start c.tiles.entries)) (end - start) covers part_length (omega arith) ys (m ∙ part_length)
+          (ap outcome (sym ok) ∙ prep.answers) prep.fills in
+          (f.0, subst (λ a. Ready o image c.shape (admitted c.shape.slots x (holding c.tiles (put_mid a (end - start) c.tiles.entries ys)))) (sym es) f.1)
+
+      pub kept_ok : (w : Tiles) → w ≡ admitted c.shape.slots x (wrote c.tiles start end ys) → Kept o (model q).shown c.shape w
+      kept_ok w e =
+          let t = wrote c.tiles start end ys in
+          let ts = listed c.tiles.held c.tiles.len in
+          subst (Kept o (model q).shown c.shape) (sym e) (kept_below (admitted c.shape.slots x t) full.1
+          (subst Once (sym (fetch_list o image c.shape c.tiles ready x t.entries)) (once_take c.shape.slots (x ∷ ts) (not_listed, c.once))))
+
+      pub went_ok : (d : Cache P K S g h) → d.below ≡ q → d.shape ≡ c.shape → d.tiles ≡ admitted c.shape.slots x (wrote c.tiles start end ys) → d.count ≡ c.count → Went model count visiting c (Ok tt) d
+      went_ok d eb eh et ec =
+          record {
+            machine = ap (λ p. going (state d.tiles (count p))) eb ∙ ap (λ t. going (state t (count q))) et
+                ∙ miss_machine o image c.shape c.tiles ready x _ (count c.below) not_listed (fetch_machine o image c.shape c.tiles ready x (wrote c.tiles start end ys).entries (count c.below) (count q) prep.counts full.0);
+            keeps = ap model eb ∙ prep.keeps;
+            shape = eh;
+            counted = ec;
+          }
+
+      pub front_ok : (w : Tiles) → w ≡ admitted c.shape.slots x (wrote c.tiles start end ys) → Front w x
+      front_ok w e = front_admitted o image c.shape c.tiles ready x (wrote c.tiles start end ys).entries w e

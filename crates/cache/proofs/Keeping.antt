@@ -1,7 +1,8 @@
 -- The slots stay right: a tile moves to the front, the spare slot is written, a tile is listed.
-use Rattle.std.proofs.Common.{◌≡◌, ℕ, zero, suc, ◌+◌, ◌*◌, ◌/◌, ◌<◌, ◌≤◌, min, cond, ltb, ◌⊎◌, List, length, get_or, set, Some, sym, refl, ap, ◌∙◌, subst, inl, inr, ⊎_elim, add-one, arith, rules}
+use Rattle.std.proofs.Common.{◌≡◌, ℕ, zero, suc, ◌+◌, ◌*◌, ◌/◌, ◌<◌, ◌≤◌, min, cond, ltb, ◌⊎◌, List, length, get_or, set, Some, sym, refl, ap, ◌∙◌, subst, inl, inr, ⊎_elim, add-one, arith}
 use borrow.Rule.Slice.PartMut.{put_mid}
-use Rattle.std.proofs.lemmas.List.{places, get_or-set_same, get_or-set_other, length-set}
+use Rattle.cache.proofs.Parts.{outside, within, length_mid}
+use Rattle.std.proofs.lemmas.List.{get_or-set_same, get_or-set_other, length-set}
 use Rattle.std.proofs.lemmas.List.Edits.{get_or-remove_below, get_or-remove_above, length-remove}
 use Rattle.std.proofs.lemmas.Bool.{cond-true, cond-false, cases_lt, cases_eq, lt-ltb, le-ltb}
 use Rattle.std.proofs.lemmas.Nat.{mul-le, mul-add-lt, div-mul-add, mod-mul-add}
@@ -13,7 +14,8 @@ use Rattle.cache.specs.declared.held.Held.{Held}
 use Rattle.cache.specs.declared.shape.TileShape.{TileShape}
 use Rattle.cache.specs.declared.tile.Tile.{Tile}
 use Rattle.cache.specs.declared.tiles.Tiles.{Tiles}
-use Rattle.cache.specs.Order.{none, slot_at, promoted}
+use Rattle.cache.specs.Machine.{Once}
+use Rattle.cache.specs.Order.{none, slot_at, promoted, listed}
 use Rattle.cache.specs.Grid.{Covers, tile_width, tile_height, tile_place}
 use Rattle.cache.specs.Slots.{base, again, entered, admitted, holding, Good, Ready}
 
@@ -53,14 +55,13 @@ get_or-promoted hs i (suc k) lt =
 length-promoted : (hs : List Held) (i : ℕ) → i < length hs → length (promoted hs i) ≡ length hs
 length-promoted hs i lt = omega (arith, length-remove hs i lt)
 
-outside : (a k j : ℕ) (xs ys : List ℕ) → length ys ≡ k → a + k ≤ length xs → (j < a) ⊎ (a + k ≤ j) → get_or (put_mid a k xs ys) j 0 ≡ get_or xs j 0
-outside a k j xs ys n le h = ⊎_elim (λ (l : j < a). search (rules, places)) (λ (l : a + k ≤ j). search (rules, places)) h
+pub small_area : (s : TileShape) (W H : ℕ) (x : Tile) (rect : Rect) → Covers s W H x rect → area rect ≤ 256
+small_area s W H x rect covers = omega (arith, mul-le rect.width rect.height s.width s.height (omega (arith, covers.width)) (omega (arith, covers.height)), s.small)
 
-within : (a k j : ℕ) (xs ys : List ℕ) → length ys ≡ k → a + k ≤ length xs → j < k → get_or (put_mid a k xs ys) (a + j) 0 ≡ get_or ys j 0
-within a k j xs ys n le h = search (rules, places)
-
-length_mid : (a k : ℕ) (xs ys : List ℕ) → length ys ≡ k → a + k ≤ length xs → length (put_mid a k xs ys) ≡ length xs
-length_mid a k xs ys n le = search (rules, places)
+-- what the type of a cache says of its slots
+pub record Kept {K S : Type 0} (o : Ops K S) (b : Image K) (s : TileShape) (t : Tiles) : Type 0 where
+  pub ready : Ready o b s t
+  pub once : Once (listed t.held t.len)
 
 module _ {K S : Type 0} (o : Ops K S) (b : Image K) (s : TileShape) where
   -- a place of a tile has its entry inside the tile's slot
@@ -144,15 +145,12 @@ module _ {K S : Type 0} (o : Ops K S) (b : Image K) (s : TileShape) where
         }
 
     module _ (x : Tile) (rect : Rect) (covers : Covers s b.width b.height x rect) where
-      pub small_area : area rect ≤ 256
-      small_area = omega (arith, mul-le rect.width rect.height s.width s.height (omega (arith, covers.width)) (omega (arith, covers.height)), s.small)
-
       -- what was prepared into the spare slot
       pub fresh : (k : ℕ) (ys : List ℕ) → k ≡ area rect → length ys ≡ k → Shown o (nth b rect) (area rect) ys
           → Good o b s (put_mid (base (slot_at t.held t.len)) k t.entries ys) (entered t x)
       fresh k ys e n shown u v lu lv =
           let w = tile_width b s x in
-          let a : base (slot_at t.held t.len) + k ≤ length t.entries = omega (arith, spare, ready.room, small_area) in
+          let a : base (slot_at t.held t.len) + k ≤ length t.entries = omega (arith, spare, ready.room, small_area s b.width b.height x rect covers) in
           let lu' : u < rect.width = omega (arith, covers.width) in
           let lv' : v < rect.height = omega (arith, covers.height) in
           let m : v * rect.width + u < area rect = mul-add-lt v rect.width u rect.height lv' lu' in

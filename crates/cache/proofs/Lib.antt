@@ -1,10 +1,10 @@
-mod Moving
+mod Parts
 mod Listing
 mod Pixels
 mod Keeping
+mod Accounting
 mod Fetching
 mod Overlaying
 mod Walking
-mod Accounting
 mod Preparing
 mod Recent

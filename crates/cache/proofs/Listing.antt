@@ -1,6 +1,10 @@
 -- The listed tiles as the machine has them.
-use Rattle.std.proofs.Common.{◌≡◌, ℕ, zero, suc, ◌+◌, ◌-◌, ◌<◌, ◌≤◌, true, false, ◌⊎◌, List, [], ◌∷◌, ◌++◌, map, length, get_or, take, drop, set, sym, refl, ap, ◌∙◌, ⊎_elim, arith}
+use Rattle.std.proofs.Common.{◌≡◌, ℕ, zero, suc, ◌+◌, ◌-◌, ◌<◌, ◌≤◌, true, false, ◌⊎◌, List, [], ◌∷◌, ◌++◌, map, length, get_or, take, drop, set, Some, None, sym, refl, ap, ◌∙◌, ⊎_elim, arith}
 use Rattle.std.proofs.lemmas.List.{length-take-le, take_all, take-append-le, take-map, drop-map, map-append, get_or-map, get_or-take, length-map, take-set, get_or-set_same}
+use Rattle.std.specs.List.{position, position_or_len}
+use Rattle.std.proofs.lemmas.List.Quantifiers.{position-Some}
+use Rattle.std.proofs.lemmas.List.Sums.{fails_before_first}
+use Rattle.std.proofs.lemmas.Grind.{common_steps}
 use Rattle.std.proofs.lemmas.Bool.{and_parts, eqb-true, cond-true, cond-false}
 use Rattle.cache.specs.declared.held.Held.{Held}
 use Rattle.cache.specs.declared.tile.Tile.{Tile}
@@ -35,6 +39,18 @@ take_removed (x ∷ xs) zero n le lt = refl
 take_removed (x ∷ xs) (suc i) zero le lt = absurd (omega arith)
 take_removed (x ∷ xs) (suc i) (suc n) le lt = ap (λ l. x ∷ l) (take_removed xs i n (omega arith) (omega arith))
 
+none_before : (ts : List Tile) (t d : Tile) → position (λ x. same x t) ts ≡ None → (k : ℕ) → k < length ts → same (get_or ts k d) t ≡ false
+none_before ts t d e k lt =
+    let all : length ts ≤ position_or_len (λ x. same x t) ts = grind (arith, common_steps) in
+    fails_before_first (λ x. same x t) ts k d (omega arith)
+
+-- a tile that is the i-th of those listed, and what becomes of the list where it goes to the front
+pub record Listed (hs : List Held) (len : ℕ) (t : Tile) (i : ℕ) : Type 0 where
+  pub below : i < len
+  pub at : tile_at hs i ≡ t
+  pub lists : lists (listed hs len) t ≡ true
+  pub moved : listed (promoted hs i) len ≡ t ∷ without (listed hs len) t
+
 module _ (hs : List Held) (len : ℕ) (t : Tile) (long : len ≤ length hs) where
   pub length-listed : length (listed hs len) ≡ len
   length-listed = length-map (take len hs) tile_of ∙ length-take-le len hs long
@@ -44,25 +60,29 @@ module _ (hs : List Held) (len : ℕ) (t : Tile) (long : len ≤ length hs) wher
       let l : k < length (take len hs) = omega (arith, length-take-le len hs long) in
       get_or-map tile_of (take len hs) k none none.tile l ∙ ap tile_of (get_or-take len hs k none lt)
 
-  -- a tile that was found at i goes to the front
-  pub listed-hit : (i : ℕ) → i < len → same (tile_at hs i) t ≡ true → ((k : ℕ) → k < i → same (tile_at hs k) t ≡ false)
-      → (lists (listed hs len) t ≡ true) × (listed (promoted hs i) len ≡ t ∷ without (listed hs len) t)
-  listed-hit i lt at before =
-      let w = found (listed hs len) t none.tile i (omega (arith, length-listed)) (ap (λ x. same x t) (listed_at i lt) ∙ at) (λ k h. ap (λ x. same x t) (listed_at k (omega arith)) ∙ before k h) in
+  pub listed-hit : (i : ℕ) → position (λ x. same x t) (listed hs len) ≡ Some i → Listed hs len t i
+  listed-hit i e =
+      let p = position-Some (λ x. same x t) (listed hs len) i none.tile e in
+      let lt : i < len = omega (arith, length-listed, p.0) in
+      let at : tile_at hs i ≡ t = same_is _ _ (ap (λ x. same x t) (sym (listed_at i lt)) ∙ p.1) in
+      let w = found (listed hs len) t none.tile i p.0 p.1 p.2 in
       let m : suc (len - 1) ≡ len = omega arith in
-      let p : take len (promoted hs i) ≡ get_or hs i none ∷ (take i (take len hs) ++ drop (suc i) (take len hs)) =
+      let q : take len (promoted hs i) ≡ get_or hs i none ∷ (take i (take len hs) ++ drop (suc i) (take len hs)) =
       ap (λ n. take n (promoted hs i)) (sym m) ∙ ap (λ l. get_or hs i none ∷ l) (take_removed hs i (len - 1) (omega arith) (omega arith))
-      ∙ ap (λ n. get_or hs i none ∷ (take i (take n hs) ++ drop (suc i) (take n hs))) m in (
-        w.0,
-        ap (map tile_of) p ∙ ap (λ l. tile_at hs i ∷ l) (map-append tile_of (take i (take len hs)) (drop (suc i) (take len hs)))
+      ∙ ap (λ n. get_or hs i none ∷ (take i (take n hs) ++ drop (suc i) (take n hs))) m in
+      record {
+        below = lt;
+        at = at;
+        lists = w.0;
+        moved = ap (map tile_of) q ∙ ap (λ l. tile_at hs i ∷ l) (map-append tile_of (take i (take len hs)) (drop (suc i) (take len hs)))
             ∙ ap (λ l. tile_at hs i ∷ (l ++ map tile_of (drop (suc i) (take len hs)))) (sym (take-map tile_of i (take len hs)))
             ∙ ap (λ l. tile_at hs i ∷ (take i (listed hs len) ++ l)) (sym (drop-map tile_of (suc i) (take len hs)))
             ∙ ap (λ l. tile_at hs i ∷ l) (sym w.1)
-            ∙ ap (λ x. x ∷ without (listed hs len) t) (same_is _ _ at),
-      )
+            ∙ ap (λ x. x ∷ without (listed hs len) t) at;
+      }
 
-  pub listed_miss : ((k : ℕ) → k < len → same (tile_at hs k) t ≡ false) → lists (listed hs len) t ≡ false
-  listed_miss h = missed (listed hs len) t none.tile (λ k lt. let l : k < len = omega (arith, length-listed) in ap (λ x. same x t) (listed_at k l) ∙ h k l)
+  pub listed_miss : position (λ x. same x t) (listed hs len) ≡ None → lists (listed hs len) t ≡ false
+  listed_miss e = missed (listed hs len) t none.tile (none_before (listed hs len) t none.tile e)
 
   -- a tile that was fetched into the place behind the listed ones goes to the front
   pub listed-fetched : (h : Held) (slots len' : ℕ) → len < length hs → len ≤ slots → h.tile ≡ t → (len' ≡ len + 1) ⊎ ((len' ≡ slots) × (len ≡ slots)) → len' ≤ slots

@@ -1,8 +1,9 @@
 -- A prepare by tiles: what it answers, and what the machine has done.
-use Rattle.std.proofs.Common.{◌≡◌, ℕ, ◌+◌, ◌-◌, ◌*◌, ◌/◌, ◌%◌, ◌<◌, ◌≤◌, true, false, ◌&&◌, leb, ◌⊎◌, List, [], length, get_or, drop, Some, Ok, Result, sym, refl, ap, ◌∙◌, subst, ⊎_elim, mul_comm, arith}
+use Rattle.std.proofs.Common.{◌≡◌, ℕ, ◌+◌, ◌-◌, ◌*◌, ◌/◌, ◌%◌, ◌<◌, ◌≤◌, true, false, ◌&&◌, leb, ◌⊎◌, List, [], length, get_or, drop, Some, Ok, Err, Result, sym, refl, ap, ◌∙◌, subst, ⊎_elim, mul_comm, arith}
 use Rattle.std.proofs.lemmas.Nat.{mul-add-lt, mod_below, div_below, div-add-mod'}
 use Rattle.std.proofs.lemmas.List.{ext_get_or, get_or-drop, length-drop}
-use Rattle.std.proofs.lemmas.Bool.{and_from, and_left, and_right, le-leb, lt-leb, cond-true, cond-false}
+use Rattle.std.specs.Result.{is_ok}
+use Rattle.std.proofs.lemmas.Bool.{both_ways, and_from, and_left, and_right, le-leb, lt-leb, cond-true, cond-false}
 use Rattle.pixel.specs.Ops.{Ops}
 use Rattle.picture.specs.declared.fault.Refusal.{Refusal}
 use Rattle.picture.specs.declared.rect.Rect.{Rect}
@@ -18,8 +19,8 @@ use Rattle.cache.specs.Order.{none}
 use Rattle.cache.specs.Grid.{across, down}
 use Rattle.cache.specs.Boxes.{spot, Beyond}
 use Rattle.cache.specs.Slots.{state, Ready}
-use Rattle.cache.specs.Walks.{over_tiles, Served, Went}
-use Rattle.cache.specs.Caching.{prepared, state_of, model_of, Sound, Worked}
+use Rattle.cache.specs.Walks.{over_tiles, Served}
+use Rattle.cache.specs.Caching.{prepared, state_of, model_of, Worked}
 use Rattle.cache.proofs.Listing.{length-listed}
 use Rattle.cache.proofs.Keeping.{long}
 use Rattle.cache.proofs.Pixels.{serves, filled-over}
@@ -83,80 +84,74 @@ module _ {K S : Type 0} (o : Ops K S) (b : Image K) (s : TileShape) (rect : Rect
         let e = halted (and_right (inside b rect) (leb (area rect) (length buf)) short) in
         (sym (cond-true (inside b rect) _ _ in-it ∙ cond-false (leb (area rect) (length buf)) _ _ short), e.0, e.1)
 
+pub ok_of : (r : Result Unit Refusal) → is_ok r ≡ true → r ≡ Ok tt
+ok_of (Ok _) e = refl
+ok_of (Err e) h = absurd (both_ways false refl h)
+
+pub err_of : (r : Result Unit Refusal) → is_ok r ≡ false → (e : Refusal) × (r ≡ Err e)
+err_of (Ok _) h = absurd (both_ways true h refl)
+err_of (Err e) h = (e, refl)
+
 -- the slots with another count of bypasses
-abbrev counting : Tiles → ℕ → Tiles
-counting t n = record { held = t.held; len = t.len; entries = t.entries; hits = t.hits; fetches = t.fetches; bypasses = n }
+abbrev pub counting : Tiles → ℕ → Tiles
+counting t n = record { held = t.held; len = t.len; entries = t.entries; counts = record { hits = t.counts.hits; fetches = t.counts.fetches; bypasses = n } }
 
-bypass_ready : {K S : Type 0} (o : Ops K S) (b : Image K) (s : TileShape) (t : Tiles) (n : ℕ) → Ready o b s t → Ready o b s (counting t n)
-bypass_ready o b s t n h = record { few = h.few; long = h.long; room = h.room; own = h.own; apart = h.apart; good = h.good }
+module _ {P K S : Type 0} {g : _} {h : _} (o : Ops K S) (model : P → Model K) (count : P → ℕ) (c : Cache P K S g h) (ready : Ready o (model c.below).shown c.shape c.tiles) where
+  abbrev image : Image K
+  image = (model c.below).shown
 
-bypass-state : (t : Tiles) (n n' y : ℕ) → y ≡ up t.bypasses → n' ≡ up n → state (counting t y) n' ≡ settled (ended (state t n))
-bypass-state t n n' y e f = ap (λ v. state (counting t v) n') e ∙ ap (λ v. state (counting t (up t.bypasses)) v) f
-
-module _ {P K S : Type 0} (o : Ops K S) (model : P → Model K) (count : P → ℕ) (sound : P → Type 0) where
   -- the laws of the machine, for a cache that does what the machine does
-  worked : (c d : Cache P) (r : Rect) (n : ℕ) → Sound o model sound c → d.shape ≡ c.shape → state_of count d ≡ prepared (model c.below).shown c.shape r n (state_of count c)
+  worked : (d : Cache P K S g h) (r : Rect) (n : ℕ) → d.shape ≡ c.shape → state_of count d ≡ prepared image c.shape r n (state_of count c)
       → Worked model count c r n d
-  worked c d r n h shape e =
-      let b = (model c.below).shown in
+  worked d r n shape e =
       let st = state_of count c in
       let t = c.tiles in
-      let few : length st.tiles ≤ c.shape.slots = omega (arith, length-listed t.held t.len none.tile (omega (arith, long o b c.shape t h.ready)), h.ready.few) in
+      let few : length st.tiles ≤ c.shape.slots = omega (arith, length-listed t.held t.len none.tile (omega (arith, long o image c.shape t ready)), ready.few) in
       record {
         shape = shape;
         machine = e;
-        once = subst (λ (v : State). Once v.tiles) (sym e) (once_prepared b c.shape r n st h.once);
-        few = subst (λ (v : State). length v.tiles ≤ c.shape.slots) (sym e) (few_prepared b c.shape r n st few);
-        accounts = subst (Accounts st) (sym e) (accounts_prepared b c.shape r n st);
-        held = λ all. ap (λ (v : State). v.asked) e ∙ quiet_prepared b c.shape r n st all;
+        once = subst (λ (v : State). Once v.tiles) (sym e) (once_prepared image c.shape r n st c.once);
+        few = subst (λ (v : State). length v.tiles ≤ c.shape.slots) (sym e) (few_prepared image c.shape r n st few);
+        accounts = subst (Accounts st) (sym e) (accounts_prepared image c.shape r n st);
+        held = λ all. ap (λ (v : State). v.asked) e ∙ quiet_prepared image c.shape r n st all;
       }
 
-  module _ (c : Cache P) (h : Sound o model sound c) (r : Rect) (buf : List ℕ) (n : ℕ) (counted : n ≡ up c.count) where
-    abbrev Both : Result Unit Refusal → Cache P → List ℕ → Type 0
-    Both a d after = Prepared o (model_of model) (λ v. v.count) (Sound o model sound) c r buf a d after × Worked model count c r (length buf) d
+  abbrev Both : Rect → List ℕ → Cache P K S g h → Result Unit Refusal → List ℕ → Type 0
+  Both r buf d a after = record { prepared : Prepared o (model_of model) (λ v. v.count) c r buf a d after; worked : Worked model count c r (length buf) d }
 
-    abbrev image : Image K
-    image = (model c.below).shown
+  -- refused with 10 or 11
+  pub refused_so : (r : Rect) (buf : List ℕ) (d : Cache P K S g h) → d.count ≡ up c.count → d.shape ≡ c.shape → model d.below ≡ model c.below → state_of count d ≡ state_of count c
+      → (a : Result Unit Refusal) → (outcome a ≡ answer image r (length buf)) × (buf ≡ filled o image r buf) × ((st : State) → st ≡ prepared image c.shape r (length buf) st)
+      → Both r buf d a buf
+  refused_so r buf d counted shape keeps same a f =
+      record {
+        prepared = record { answers = f.0; fills = f.1; counts = counted; keeps = keeps };
+        worked = worked d r (length buf) shape (same ∙ f.2 (state_of count c));
+      }
 
-    -- refused with 10 or 11
-    pub refused_so : (a : Result Unit Refusal) → (outcome a ≡ answer image r (length buf)) × (buf ≡ filled o image r buf) × ((st : State) → st ≡ prepared image c.shape r (length buf) st)
-        → Both a (record { below = c.below; shape = c.shape; tiles = c.tiles; count = n }) buf
-    refused_so a f =
-        let d : Cache P = record { below = c.below; shape = c.shape; tiles = c.tiles; count = n } in (
-          record { answers = f.0; fills = f.1; counts = counted; keeps = refl; stays = record { below = h.below; ready = h.ready; once = h.once } },
-          worked c d r (length buf) h refl (f.2 (state_of count c)),
-        )
+  module _ (r : Rect) (buf : List ℕ) (x : r.left + r.width ≤ image.width) (y : r.top + r.height ≤ image.height) (z : area r ≤ length buf) (to : List ℕ) (len : length to ≡ length buf) (beyond : Beyond r buf to) where
+    -- served by tiles
+    pub served_so : (d : Cache P K S g h) → d.count ≡ up c.count → d.shape ≡ c.shape → model d.below ≡ model c.below → going (state_of count d) ≡ over_tiles image c.shape r (state_of count c)
+        → Served o image c.shape r to (across c.shape r * down c.shape r) → Both r buf d (Ok tt) to
+    served_so d counted shape keeps e served =
+        let f = by_tiles o image c.shape r buf x y z to len beyond served in
+        record {
+          prepared = record { answers = f.0; fills = f.1; counts = counted; keeps = keeps };
+          worked = worked d r (length buf) shape (machine o image c.shape r buf x y z (going (state_of count d)) (state_of count c) e);
+        }
 
-    module _ (x : r.left + r.width ≤ image.width) (y : r.top + r.height ≤ image.height) (z : area r ≤ length buf) (v : P) (w : Tiles) (to : List ℕ) (len : length to ≡ length buf) (beyond : Beyond r buf to) where
-      -- served by tiles
-      pub served_so : Went o model count sound c.shape (over_tiles image c.shape r) c.below c.tiles true v w → Served o image c.shape r to (across c.shape r * down c.shape r)
-          → Both (Ok tt) (record { below = v; shape = c.shape; tiles = w; count = n }) to
-      served_so went served =
-          let d : Cache P = record { below = v; shape = c.shape; tiles = w; count = n } in
-          let f = by_tiles o image c.shape r buf x y z to len beyond served in
-          let k = worked c d r (length buf) h refl (machine o image c.shape r buf x y z (going (state w (count v))) (state_of count c) went.machine) in (
-            record { answers = f.0; fills = f.1; counts = counted; keeps = went.keeps; stays = record { below = went.below; ready = went.ready; once = k.once } },
-            k,
-          )
-
-      -- passed on below
-      pub passed_so : Went o model count sound c.shape (over_tiles image c.shape r) c.below c.tiles false v w
-          → (a : Result Unit Refusal) (q : P) (after : List ℕ) (m : ℕ) → m ≡ up w.bypasses → Prepared o model count sound v r to a q after
-          → Both a (record { below = q; shape = c.shape; tiles = counting w m; count = n }) after
-      passed_so went a q after m e prep =
-          let d : Cache P = record { below = q; shape = c.shape; tiles = counting w m; count = n } in
-          let st = bypass-state w (count v) (count q) m e prep.counts ∙ machine o image c.shape r buf x y z (ended (state w (count v))) (state_of count c) went.machine in
-          let k = worked c d r (length buf) h refl st in (
-            record {
-              answers = prep.answers ∙ ap (λ (i : Model K). answer i.shown r (length to)) went.keeps ∙ ap (answer image r) len;
-              fills = prep.fills ∙ ap (λ (i : Model K). filled o i.shown r to) went.keeps ∙ by_below o image c.shape r buf x y z to len beyond;
-              counts = counted;
-              keeps = prep.keeps ∙ went.keeps;
-              stays = record {
-                below = prep.stays;
-                ready = bypass_ready o _ c.shape w m (subst (λ (i : Model K). Ready o i.shown c.shape w) (sym prep.keeps) went.ready);
-                once = k.once;
-              };
-            },
-            k,
-          )
+    -- passed on below, by a cache that has walked
+    pub passed_so : (d e : Cache P K S g h) → d.count ≡ up c.count → d.shape ≡ c.shape → model e.below ≡ model c.below → ended (state_of count e) ≡ over_tiles image c.shape r (state_of count c)
+        → d.tiles ≡ counting e.tiles (up e.tiles.counts.bypasses) → (a : Result Unit Refusal) (after : List ℕ) → Prepared o model count e.below r to a d.below after → Both r buf d a after
+    passed_so d e counted shape keeps ends tiles a after prep =
+        let st = ap (λ t. state t (count d.below)) tiles ∙ ap (λ n. state (counting e.tiles (up e.tiles.counts.bypasses)) n) prep.counts
+        ∙ machine o image c.shape r buf x y z (ended (state_of count e)) (state_of count c) ends in
+        record {
+          prepared = record {
+            answers = prep.answers ∙ ap (λ (i : Model K). answer i.shown r (length to)) keeps ∙ ap (answer image r) len;
+            fills = prep.fills ∙ ap (λ (i : Model K). filled o i.shown r to) keeps ∙ by_below o image c.shape r buf x y z to len beyond;
+            counts = counted;
+            keeps = prep.keeps ∙ keeps;
+          };
+          worked = worked d r (length buf) shape st;
+        }

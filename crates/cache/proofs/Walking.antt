@@ -1,13 +1,16 @@
 -- The walk over the tiles that a rectangle touches.
-use Rattle.std.proofs.Common.{◌≡◌, ℕ, zero, suc, ◌+◌, ◌-◌, ◌*◌, ◌/◌, ◌%◌, ◌<◌, ◌≤◌, Bool, true, false, List, get_or, Some, sym, ap, ◌∙◌, subst, ⊎_elim, add-zero, add-suc, mul-le-mul_right, mul_comm, mul-one, mul-add, div-mul-le_self, add-one, arith}
+use Rattle.std.proofs.Common.{◌≡◌, ℕ, zero, suc, ◌+◌, ◌-◌, ◌*◌, ◌/◌, ◌%◌, ◌<◌, ◌≤◌, Bool, List, get_or, drop, Some, Ok, Err, Result, sym, refl, ap, ◌∙◌, subst, ⊎_elim, add-zero, add-suc, mul-le-mul_right, mul_comm, mul-one, one-mul, mul-add, add-mul, div-mul-le_self, add-one, arith}
 use native.Mathlib.Nat.{lt-mul-div-succ}
-use Rattle.std.proofs.lemmas.Nat.{div-mul-add, mod-mul-add, le-div, mod_below, div_below}
+use Rattle.std.proofs.lemmas.Nat.{div-mul-add, mod-mul-add, mul-add-lt, le-div}
+use Rattle.std.proofs.lemmas.List.{get_or-drop}
 use Rattle.std.proofs.lemmas.Bool.{cases_eq}
 use Rattle.pixel.specs.Ops.{Ops}
 use Rattle.picture.specs.declared.rect.Rect.{Rect}
 use Rattle.picture.specs.Images.{Image, Model}
 use Rattle.picture.specs.Prepare.{coded}
 use Rattle.picture.specs.Region.{Within}
+use Rattle.picture.specs.declared.fault.Refusal.{Refusal}
+use Rattle.cache.specs.declared.cache.Cache.{Cache}
 use Rattle.cache.specs.declared.held.Held.{Held}
 use Rattle.cache.specs.declared.shape.TileShape.{TileShape}
 use Rattle.cache.specs.declared.tile.Tile.{Tile}
@@ -15,9 +18,15 @@ use Rattle.cache.specs.declared.tiles.Tiles.{Tiles}
 use Rattle.cache.specs.Machine.{State, Walk, going, ended, visited, stepped, walked}
 use Rattle.cache.specs.Order.{none, slot_at}
 use Rattle.cache.specs.Grid.{Covers, whole, tile_width, tile_height, span, across, down, touched}
-use Rattle.cache.specs.Boxes.{spot, Overlaid}
-use Rattle.cache.specs.Slots.{base, state, Front, Good, Ready}
-use Rattle.cache.specs.Walks.{walk_of, Served, Went}
+use Rattle.cache.specs.Boxes.{spot, Beyond, Overlaid}
+use Rattle.cache.specs.Slots.{base, Front, Good, Ready}
+use Rattle.cache.specs.Walks.{Served}
+use Rattle.cache.specs.Caching.{state_of}
+use Rattle.cache.specs.Visits.{walk_of, Went}
+
+-- in a picture of the same size
+pub covers_in : (s : TileShape) (W H W' H' : ℕ) (x : Tile) (rect : Rect) → W ≡ W' → H ≡ H' → Covers s W H x rect → Covers s W' H' x rect
+covers_in s W H W' H' x rect p q h = subst (λ w. Covers s w H' x rect) p (subst (λ v. Covers s W v x rect) q h)
 
 pub div_up : (d a b : ℕ) → 0 < d → a ≤ b → a / d ≤ b / d
 div_up d a b pos le = le-div (a / d) b d pos (omega (arith, div-mul-le_self a d))
@@ -64,32 +73,34 @@ module _ (slots : ℕ) (whole : Tile → Bool) (f : ℕ → Tile) (s : State) wh
       let q : n + (m - n) ≡ m = omega arith in
       ap (λ k. walked slots whole f k s) (sym q) ∙ walk_stays n (m - n) st e
 
--- the walk of a cache, where p and t have become q and u and then v and w
-module _ {P K S : Type 0} (o : Ops K S) (model : P → Model K) (count : P → ℕ) (sound : P → Type 0) (s : TileShape) (f : ℕ → Tile) (p : P) (t : Tiles) where
+-- the walk of a cache c, which has become d and then e
+module _ {P K S : Type 0} {g : _} {h : _} (model : P → Model K) (count : P → ℕ) (f : ℕ → Tile) (c : Cache P K S g h) where
   abbrev pub sofar : ℕ → State → Walk
-  sofar k = walked s.slots (whole (model p).shown s) f k
+  sofar k = walked c.shape.slots (whole (model c.below).shown c.shape) f k
 
-  pub went_more : (q v : P) (u w : Tiles) (k : ℕ) (x : Tile) (on : Bool) → x ≡ f k → Went o model count sound s (sofar k) p t true q u
-      → Went o model count sound s (λ st. visited s.slots (whole (model q).shown s) st x) q u on v w → Went o model count sound s (sofar (k + 1)) p t on v w
-  went_more q v u w k x on e a h =
-      let b = (model p).shown in
-      let st = state u (count q) in
-      let m : walk_of on (state w (count v)) ≡ visited s.slots (whole b s) st (f k) =
-      h.machine ∙ ap (λ (n : Model K). visited s.slots (whole n.shown s) st x) a.keeps ∙ ap (visited s.slots (whole b s) st) e in
+  pub went_more : (d e : Cache P K S g h) (k : ℕ) (x : Tile) (r : Result Unit Refusal) → x ≡ f k → Went model count (sofar k) c (Ok tt) d
+      → Went model count (λ st. visited d.shape.slots (whole (model d.below).shown d.shape) st x) d r e → Went model count (sofar (k + 1)) c r e
+  went_more d e k x r is a h =
+      let b = (model c.below).shown in
+      let st = state_of count d in
+      let m : walk_of r (state_of count e) ≡ visited c.shape.slots (whole b c.shape) st (f k) =
+      h.machine ∙ ap (λ (s : TileShape). visited s.slots (whole (model d.below).shown s) st x) a.shape
+      ∙ ap (λ (n : Model K). visited c.shape.slots (whole n.shown c.shape) st x) a.keeps ∙ ap (visited c.shape.slots (whole b c.shape) st) is in
       record {
-        machine = sym (walk_more s.slots (whole b s) f (state t (count p)) k st (walk_of on (state w (count v))) (sym a.machine) m);
+        machine = sym (walk_more c.shape.slots (whole b c.shape) f (state_of count c) k st (walk_of r (state_of count e)) (sym a.machine) m);
         keeps = h.keeps ∙ a.keeps;
-        below = h.below;
-        ready = h.ready;
+        shape = h.shape ∙ a.shape;
+        counted = h.counted ∙ a.counted;
       }
 
-  pub went_ended : (v : P) (w : Tiles) (k n : ℕ) → k ≤ n → Went o model count sound s (sofar k) p t false v w → Went o model count sound s (sofar n) p t false v w
-  went_ended v w k n le h =
+  pub went_ended : (e : Cache P K S g h) (k n : ℕ) (r a : Result Unit Refusal) (z : Refusal) → r ≡ Err z → a ≡ Err z → k ≤ n → Went model count (sofar k) c r e → Went model count (sofar n) c a e
+  went_ended e k n r a z er ea le h =
+      let m : ended (state_of count e) ≡ sofar k (state_of count c) = ap (λ w. walk_of w (state_of count e)) (sym er) ∙ h.machine in
       record {
-        machine = sym (walk_ends s.slots (whole (model p).shown s) f (state t (count p)) k n (state w (count v)) le (sym h.machine));
+        machine = ap (λ w. walk_of w (state_of count e)) ea ∙ sym (walk_ends c.shape.slots (whole (model c.below).shown c.shape) f (state_of count c) k n (state_of count e) le (sym m));
         keeps = h.keeps;
-        below = h.below;
-        ready = h.ready;
+        shape = h.shape;
+        counted = h.counted;
       }
 
 module _ {K S : Type 0} (o : Ops K S) (b : Image K) (s : TileShape) where
@@ -112,7 +123,7 @@ module _ {K S : Type 0} (o : Ops K S) (b : Image K) (s : TileShape) where
   module _ (rect : Rect) (in-x : rect.left + rect.width ≤ b.width) (in-y : rect.top + rect.height ≤ b.height) where
     -- one more tile is served
     pub served_more : (t : Tiles) (k : ℕ) (c : Tile) (cell : Rect) (was to : List ℕ) → Ready o b s t → c ≡ touched s rect k → Front t c → Covers s b.width b.height c cell
-        → Overlaid t.entries (base (slot_at t.held 0)) cell rect was to → Served o b s rect was k → Served o b s rect to (k + 1)
+        → Overlaid (drop (base (slot_at t.held 0)) t.entries) cell rect was to → Served o b s rect was k → Served o b s rect to (k + 1)
     served_more t k c cell was to ready e front covers over served x y w lt =
         let X = x / s.width in
         let Y = y / s.height in
@@ -141,7 +152,8 @@ module _ {K S : Type 0} (o : Ops K S) (b : Image K) (s : TileShape) where
           right = omega (arith, covers.left, covers.width, dx.1, w.right);
           bottom = omega (arith, covers.top, covers.height, dy.1, w.bottom);
         } in
-        held_at t.entries (get_or t.held 0 none) c cell (ready.good 0 front.some) front.at covers x y wc ∙ ap Some (sym (over.inside x y wc w)))
+        held_at t.entries (get_or t.held 0 none) c cell (ready.good 0 front.some) front.at covers x y wc
+        ∙ ap Some (sym (over.inside x y wc w ∙ get_or-drop (base (slot_at t.held 0)) t.entries (spot cell x y) 0)))
         (λ (ny : Y ≡ c.row → ⊥).
         away (λ wc. ny (in_div y s.height c.row (omega (arith, covers.top, wc.top)) (omega (arith, covers.top, covers.height, wc.bottom)))) (λ q. ny (row q)))
         (cases_eq Y c.row))
@@ -149,20 +161,75 @@ module _ {K S : Type 0} (o : Ops K S) (b : Image K) (s : TileShape) where
         away (λ wc. nx (in_div x s.width c.column (omega (arith, covers.left, wc.left)) (omega (arith, covers.left, covers.width, wc.right)))) (λ q. nx (column q)))
         (cases_eq X c.column)
 
--- the k-th tile that is touched, from the numbers that the walk has computed: it begins in the picture, and it is the machine's
-pub record Kth (s : TileShape) (rect : Rect) (k a : ℕ) : Type 0 where
-  pub left : (rect.left / s.width + k % a) * s.width < rect.left + rect.width
-  pub top : (rect.top / s.height + k / a) * s.height < rect.top + rect.height
-  pub is : ◌≡◌ {A = Tile} (record { column = rect.left / s.width + k % a; row = rect.top / s.height + k / a }) (touched s rect k)
-  pub next : k + 1 ≤ across s rect * down s rect
+-- a tile's number among those that are touched
+abbrev pub number : TileShape → Rect → ℕ → ℕ → ℕ
+number s rect column row = (row - rect.top / s.height) * across s rect + (column - rect.left / s.width)
 
-pub kth : (s : TileShape) (rect : Rect) (k a d : ℕ) → a ≡ across s rect → d ≡ down s rect → k < a * d → 1 ≤ a → Kth s rect k a
-kth s rect k a d ea ed lt some =
-    let l : k < d * a = omega (arith, mul_comm a d) in
-    let e : a * d ≡ across s rect * down s rect = ap (λ n. n * d) ea ∙ ap (λ n. across s rect * n) ed in
+-- a tile that is touched begins in the picture, and it is the machine's
+pub record Touched (s : TileShape) (rect : Rect) (x : Tile) : Type 0 where
+  pub left : x.column * s.width < rect.left + rect.width
+  pub top : x.row * s.height < rect.top + rect.height
+  pub is : x ≡ touched s rect (number s rect x.column x.row)
+  pub next : number s rect x.column x.row + 1 ≤ across s rect * down s rect
+
+pub touches : (s : TileShape) (rect : Rect) (x : Tile) → rect.left / s.width ≤ x.column → x.column < rect.left / s.width + across s rect
+    → rect.top / s.height ≤ x.row → x.row < rect.top / s.height + down s rect → Touched s rect x
+touches s rect x ll lr tl tr =
+    let a = across s rect in
+    let i = x.column - rect.left / s.width in
+    let j = x.row - rect.top / s.height in
+    let il : i < a = omega arith in
+    let jl : j < down s rect = omega arith in
+    let ci : rect.left / s.width + i ≡ x.column = omega arith in
+    let rj : rect.top / s.height + j ≡ x.row = omega arith in
     record {
-      left = span_in rect.left rect.width s.width (k % a) rect.wide s.wide (omega (arith, mod_below k a some, ea));
-      top = span_in rect.top rect.height s.height (k / a) rect.high s.high (omega (arith, div_below k a d some l, ed));
-      is = ap (λ n. record { column = rect.left / s.width + k % n; row = rect.top / s.height + k / n }) ea;
-      next = omega arith;
+      left = subst (λ n. n * s.width < rect.left + rect.width) ci (span_in rect.left rect.width s.width i rect.wide s.wide il);
+      top = subst (λ n. n * s.height < rect.top + rect.height) rj (span_in rect.top rect.height s.height j rect.high s.high jl);
+      is = ap (λ n. record { column = n; row = x.row }) (sym ci ∙ ap (λ n. rect.left / s.width + n) (sym (mod-mul-add j a i il)))
+          ∙ ap (λ n. record { column = rect.left / s.width + (j * a + i) % a; row = n }) (sym rj ∙ ap (λ n. rect.top / s.height + n) (sym (div-mul-add j a i il)));
+      next = omega (arith, mul-add-lt j a i (down s rect) jl il, mul_comm (down s rect) a);
     }
+
+pub row_done : (s : TileShape) (rect : Rect) (column row : ℕ) → column ≡ rect.left / s.width + across s rect → rect.top / s.height ≤ row
+    → number s rect column row ≡ number s rect (rect.left / s.width) (row + 1)
+row_done s rect column row e le =
+    let j = row - rect.top / s.height in
+    let f : row + 1 - rect.top / s.height ≡ j + 1 = omega arith in
+    omega (arith, ap (λ n. n * across s rect) f, add-mul j 1 (across s rect), one-mul (across s rect))
+
+pub all_done : (s : TileShape) (rect : Rect) (row : ℕ) → row ≡ rect.top / s.height + down s rect → number s rect (rect.left / s.width) row ≡ across s rect * down s rect
+all_done s rect row e =
+    let f : row - rect.top / s.height ≡ down s rect = omega arith in
+    omega (arith, ap (λ n. n * across s rect) f, mul_comm (down s rect) (across s rect))
+
+-- the walk of a cache c, which has become d behind the first n tiles, where `to` holds what they gave
+module _ {P K S : Type 0} {g : _} {h : _} (o : Ops K S) (model : P → Model K) (count : P → ℕ) (rect : Rect) (c : Cache P K S g h) (was : List ℕ) where
+  pub record Sofar (n : ℕ) (d : Cache P K S g h) (to : List ℕ) : Type 0 where
+    pub went : Went model count (sofar model count (touched c.shape rect) c n) c (Ok tt) d
+    pub served : Served o (model c.below).shown c.shape rect to n
+    pub rest : Beyond rect was to
+
+  pub begun : Sofar 0 c was
+  begun = record { went = record { machine = refl; keeps = refl; shape = refl; counted = refl }; served = λ x y w lt. absurd (omega arith); rest = λ k le. refl }
+
+  -- below has the size that it had, whatever tiles were visited
+  pub covers_now : (d : Cache P K S g h) (W H : ℕ) (x : Tile) (cell : Rect) → d.shape ≡ c.shape → model d.below ≡ model c.below → W ≡ (model c.below).shown.width → H ≡ (model c.below).shown.height
+      → Covers c.shape W H x cell → Covers d.shape (model d.below).shown.width (model d.below).shown.height x cell
+  covers_now d W H x cell es em ew eh h =
+      subst (λ (s : TileShape). Covers s (model d.below).shown.width (model d.below).shown.height x cell) (sym es)
+      (covers_in c.shape W H _ _ x cell (ew ∙ ap (λ (m : Model K). m.shown.width) (sym em)) (eh ∙ ap (λ (m : Model K). m.shown.height) (sym em)) h)
+
+  module _ (in-x : rect.left + rect.width ≤ (model c.below).shown.width) (in-y : rect.top + rect.height ≤ (model c.below).shown.height) where
+    -- one more tile
+    pub further : (n m : ℕ) → m ≡ n + 1 → (d e : Cache P K S g h) (x : Tile) (cell : Rect) (to part after : List ℕ) → Sofar n d to → x ≡ touched c.shape rect n
+        → Went model count (λ st. visited d.shape.slots (whole (model d.below).shown d.shape) st x) d (Ok tt) e → Ready o (model e.below).shown e.shape e.tiles → Front e.tiles x
+        → Covers c.shape (model c.below).shown.width (model c.below).shown.height x cell → part ≡ drop (base (slot_at e.tiles.held 0)) e.tiles.entries → Overlaid part cell rect to after → Sofar m e after
+    further n m em d e x cell to part after sofar is went ready front covers ep over =
+        let w = went_more model count (touched c.shape rect) c d e n x (Ok tt) is sofar.went went in
+        let r : Ready o (model c.below).shown c.shape e.tiles =
+        subst (λ (s : TileShape). Ready o (model c.below).shown s e.tiles) w.shape (subst (λ (m : Model K). Ready o m.shown e.shape e.tiles) w.keeps ready) in
+        subst (λ k. Sofar k e after) (sym em) (record {
+          went = w;
+          served = served_more o (model c.below).shown c.shape rect in-x in-y e.tiles n x cell to after r is front covers (subst (λ l. Overlaid l cell rect to after) ep over) sofar.served;
+          rest = λ k le. over.rest k le ∙ sofar.rest k le;
+        })

@@ -4,15 +4,13 @@ use Rattle.picture.specs.declared.rect.Rect.{Rect}
 use Rattle.picture.specs.Prepare.{area}
 use Rattle.picture.specs.Region.{Within}
 
--- a box is `wide` by `high` entries; its rows begin at `start` and then each `stride` further, or at `at` and each `pitch` further
-abbrev pub Copied : List ℕ → ℕ → ℕ → List ℕ → ℕ → ℕ → ℕ → ℕ → Type 0
-Copied from start stride to at pitch wide high =
-    (j : ℕ) → j < high → (i : ℕ) → i < wide → slice_index to (at + (j * pitch + i)) ≡ slice_index from (start + (j * stride + i))
+-- a box is `wide` by `high` entries; its rows begin each `stride` further, or each `pitch` further
+abbrev pub Copied : List ℕ → ℕ → List ℕ → ℕ → ℕ → ℕ → Type 0
+Copied from stride to pitch wide high = (j : ℕ) → j < high → (i : ℕ) → i < wide → slice_index to (j * pitch + i) ≡ slice_index from (j * stride + i)
 
 -- what lies outside the box is as it was
-abbrev pub Others : List ℕ → List ℕ → ℕ → ℕ → ℕ → ℕ → Type 0
-Others was to at pitch wide high =
-    (k : ℕ) → ((j : ℕ) → j < high → (i : ℕ) → i < wide → k ≢ at + (j * pitch + i)) → slice_index to k ≡ slice_index was k
+abbrev pub Others : List ℕ → List ℕ → ℕ → ℕ → ℕ → Type 0
+Others was to pitch wide high = (k : ℕ) → ((j : ℕ) → j < high → (i : ℕ) → i < wide → k ≢ j * pitch + i) → slice_index to k ≡ slice_index was k
 
 -- a place's number in a rectangle, in reading order
 abbrev pub spot : Rect → ℕ → ℕ → ℕ
@@ -23,7 +21,7 @@ abbrev pub Beyond : Rect → List ℕ → List ℕ → Type 0
 Beyond r was to = (k : ℕ) → area r ≤ k → slice_index to k ≡ slice_index was k
 
 -- the entries of one rectangle are laid over those of another where they have places in common
-pub record Overlaid (entries : List ℕ) (start : ℕ) (cell rect : Rect) (was to : List ℕ) : Type 0 where
-  pub inside : (x y : ℕ) → Within cell x y → Within rect x y → slice_index to (spot rect x y) ≡ slice_index entries (start + spot cell x y)
+pub record Overlaid (entries : List ℕ) (cell rect : Rect) (was to : List ℕ) : Type 0 where
+  pub inside : (x y : ℕ) → Within cell x y → Within rect x y → slice_index to (spot rect x y) ≡ slice_index entries (spot cell x y)
   pub outside : (x y : ℕ) → (Within cell x y → ⊥) → Within rect x y → slice_index to (spot rect x y) ≡ slice_index was (spot rect x y)
   pub rest : Beyond rect was to

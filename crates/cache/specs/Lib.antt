@@ -7,5 +7,6 @@ pub mod Boxes
 pub mod Slots
 pub mod Walks
 pub mod Caching
+pub mod Visits
 pub mod Laws
 pub mod Samples

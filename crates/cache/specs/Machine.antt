@@ -1,5 +1,7 @@
 -- What a cache does, seen from outside: the tiles that it lists, and its counts.
 use Rattle.std.specs.Prelude.{◌≡◌, ℕ, zero, suc, ◌+◌, ◌-◌, ◌*◌, ◌^◌, ◌<◌, Bool, true, false, cond, ◌&&◌, List, [], ◌∷◌, take, ◌==◌}
+use Rattle.std.specs.Coded.{×_prop, Unit-prop}
+use Rattle.std.proofs.Math.Bool.{Bool-set}
 use Rattle.picture.specs.Prepare.{up}
 use Rattle.cache.specs.declared.counts.Counts.{Counts}
 use Rattle.cache.specs.declared.tile.Tile.{Tile}
@@ -83,6 +85,10 @@ emptied s = record { tiles = []; hits = s.hits; fetches = s.fetches; bypasses = 
 abbrev pub Once : List Tile → Type 0
 Once [] = Unit {0}
 Once (t ∷ ts) = (lists ts t ≡ false) × Once ts
+
+pub once_prop : (ts : List Tile) → IsProp (Once ts)
+once_prop [] = Unit-prop
+once_prop (t ∷ ts) = ×_prop (Bool-set (lists ts t) false) (once_prop ts)
 
 -- from s to t, while no count has stopped: below's count rose by the fetches and twice the bypasses
 abbrev pub Accounts : State → State → Type 0

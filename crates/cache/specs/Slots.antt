@@ -18,11 +18,16 @@ base slot = slot * most_places
 
 -- the machine's state, over a picture with this count
 abbrev pub state : Tiles → ℕ → State
-state t asked = record { tiles = listed t.held t.len; hits = t.hits; fetches = t.fetches; bypasses = t.bypasses; asked = asked }
+state t asked = record { tiles = listed t.held t.len; hits = t.counts.hits; fetches = t.counts.fetches; bypasses = t.counts.bypasses; asked = asked }
 
 -- what stands at i goes to the front, and a hit is counted
 abbrev pub again : Tiles → ℕ → Tiles
-again t i = record { held = promoted t.held i; len = t.len; entries = t.entries; hits = up t.hits; fetches = t.fetches; bypasses = t.bypasses }
+again t i = record {
+  held = promoted t.held i;
+  len = t.len;
+  entries = t.entries;
+  counts = record { hits = up t.counts.hits; fetches = t.counts.fetches; bypasses = t.counts.bypasses };
+}
 
 -- a tile in the spare slot, which stands behind the listed ones
 abbrev pub entered : Tiles → Tile → Held
@@ -34,14 +39,12 @@ admitted slots x t = record {
   held = promoted (slice_set t.held t.len (entered t x)) t.len;
   len = min (t.len + 1) slots;
   entries = t.entries;
-  hits = t.hits;
-  fetches = up t.fetches;
-  bypasses = t.bypasses;
+  counts = record { hits = t.counts.hits; fetches = up t.counts.fetches; bypasses = t.counts.bypasses };
 }
 
 -- the slots with other entries
 abbrev pub holding : Tiles → List ℕ → Tiles
-holding t es = record { held = t.held; len = t.len; entries = es; hits = t.hits; fetches = t.fetches; bypasses = t.bypasses }
+holding t es = record { held = t.held; len = t.len; entries = es; counts = t.counts }
 
 -- a tile is the first of the list
 pub record Front (t : Tiles) (x : Tile) : Type 0 where
@@ -51,9 +54,9 @@ pub record Front (t : Tiles) (x : Tile) : Type 0 where
 -- no tile, no count, and each slot in its own place
 pub record Unused (t : Tiles) : Type 0 where
   pub len : t.len ≡ 0
-  pub hits : t.hits ≡ 0
-  pub fetches : t.fetches ≡ 0
-  pub bypasses : t.bypasses ≡ 0
+  pub hits : t.counts.hits ≡ 0
+  pub fetches : t.counts.fetches ≡ 0
+  pub bypasses : t.counts.bypasses ≡ 0
   pub long : length t.held ≡ slot_count
   pub room : length t.entries ≡ entry_count
   pub own : (i : ℕ) → i < slot_count → slot_at t.held i ≡ i

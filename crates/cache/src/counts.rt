@@ -1,5 +1,5 @@
 /// What a cache has counted; each count stops at 2^64 - 1.
-#[derive(Clone, Copy, PartialEq, Eq, Debug)]
+#[derive(Clone, Copy, Default, PartialEq, Eq, Debug)]
 pub struct Counts {
     /// Tiles that were listed.
     pub hits: u64,

@@ -9,6 +9,7 @@ mod held;
 mod laws;
 mod limits;
 mod order;
+mod serving;
 mod shape;
 mod shapes;
 mod tile;

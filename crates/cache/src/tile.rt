@@ -1,5 +1,5 @@
 /// A tile, by its column and row among the tiles.
-#[derive(Clone, Copy)]
+#[derive(Clone, Copy, PartialEq, Eq)]
 pub struct Tile {
     pub column: u32,
     pub row: u32,

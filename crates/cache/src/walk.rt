@@ -1,61 +1,56 @@
-ghost use Rattle.std.specs.Prelude.{◌≡◌, ◌+◌, ◌*◌, ◌<◌, ◌≤◌, true, length};
+ghost use Rattle.std.specs.Prelude.{◌≡◌, ◌+◌, ◌*◌, ◌/◌, ◌≤◌, IfOk, length};
 ghost use Rattle.picture.specs.Limits.{largest};
 ghost use Rattle.picture.specs.Prepare.{area};
 ghost use Rattle.cache.specs.Grid.{span, across as wideness, down as highness};
 ghost use Rattle.cache.specs.Boxes.{Beyond};
-ghost use Rattle.cache.specs.Walks.{Stands, Went, Served, over_tiles};
+ghost use Rattle.cache.specs.Walks.{Served, over_tiles};
+ghost use Rattle.cache.specs.Visits.{Went};
 
 use crate::blit::overlay;
-use crate::limits::PLACES;
-use crate::shape::TileShape;
+use crate::cache::Cache;
 use crate::tile::Tile;
-use crate::tiles::Tiles;
-use crate::visit::{cell, visit};
-use picture::{Picture, Rect, Size};
+use crate::visit::cell;
+use picture::{Picture, Rect, Refusal, Size};
 use pixel::Kind;
 
 /// How many tiles of this side are touched by `count` columns or rows from `from` on.
 fn reach(from: u32, count: u32, side: u32) -> u32
-    requires { (1 ≤ count) × ((from + count ≤ largest) × (1 ≤ side)) }
+    requires some { 1 ≤ count }
+    requires inside { from + count ≤ largest }
+    requires side { 1 ≤ side }
     ensures is { result ≡ span from count side }
     ensures some { 1 ≤ result }
-    ensures few { result ≤ largest }
+    ensures few { from / side + result ≤ largest }
 {
     (from + count - 1) / side - from / side + 1
 }
 
-/// Copies a rectangle out of its tiles, tile by tile; false where one is refused below.
-pub fn walk<P: Picture>(
-    below: &mut P,
-    shape: TileShape,
-    size: Size,
-    tiles: &mut Tiles,
-    rect: Rect,
-    buffer: &mut [u64],
-) -> bool
-    requires stands { Stands P.Pixel.ops P.model shape size below.old tiles.old }
-    requires across { rect.left + rect.width ≤ size.width }
-    requires down { rect.top + rect.height ≤ size.height }
-    requires room { area rect ≤ length buffer.old }
-    ensures went { Went P.Pixel.ops P.model P.count shape (over_tiles (P.model below.old).shown shape rect) below.old tiles.old result below.new tiles.new }
-    ensures served { result ≡ true → Served P.Pixel.ops (P.model below.old).shown shape rect buffer.new (wideness shape rect * highness shape rect) }
-    ensures rest { Beyond rect buffer.old buffer.new }
-{
-    let first = rect.left / shape.width;
-    let top = rect.top / shape.height;
-    let across = reach(rect.left, rect.width, shape.width);
-    let down = reach(rect.top, rect.height, shape.height);
-    for k in 0..across * down {
-        let tile = Tile {
-            column: first + k % across,
-            row: top + k / across,
-        };
-        if !visit(below, shape, size, tiles, tile) {
-            return false;
+impl<P: Picture> Cache<P> {
+    /// Copies a rectangle out of its tiles, tile by tile, until one is refused below; `size` is that of the picture.
+    pub(crate) fn walk(&mut self, size: Size, rect: Rect, buffer: &mut [u64]) -> Result<(), Refusal>
+        requires wide { size.width ≡ (P.model self.old.below).shown.width }
+        requires high { size.height ≡ (P.model self.old.below).shown.height }
+        requires across { rect.left + rect.width ≤ size.width }
+        requires down { rect.top + rect.height ≤ size.height }
+        requires room { area rect ≤ length buffer.old }
+        ensures went { Went P.model P.count (over_tiles (P.model self.old.below).shown self.old.shape rect) self.old result self.new }
+        ensures served { IfOk result (λ _. Served P.Pixel.ops (P.model self.old.below).shown self.old.shape rect buffer.new (wideness self.old.shape rect * highness self.old.shape rect)) }
+        ensures rest { Beyond rect buffer.old buffer.new }
+    {
+        let shape = self.shape;
+        let left = rect.left / shape.width;
+        let top = rect.top / shape.height;
+        let across = reach(rect.left, rect.width, shape.width);
+        let down = reach(rect.top, rect.height, shape.height);
+        for row in top..top + down {
+            for column in left..left + across {
+                let tile = Tile { column, row };
+                let place = cell(shape, size, tile);
+                self.visit(tile, place)?;
+                let start = self.tiles.base(0);
+                overlay(&self.tiles.entries[start..], place, rect, buffer);
+            }
         }
-        let place = cell(shape, size, tile);
-        let start = tiles.held[0].slot as usize * PLACES;
-        overlay(&tiles.entries, start, place, rect, buffer);
+        Ok(())
     }
-    true
 }

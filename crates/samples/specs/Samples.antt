@@ -27,10 +27,7 @@ use Rattle.source.specs.declared.raster.Raster.{Raster}
 use Rattle.source.specs.Files.{fault_at, raster_image}
 use Rattle.source.specs.Header.{header_of}
 use Rattle.source.specs.Opening.{headed}
-use Rattle.cache.specs.declared.shape.TileShape.{TileShape}
-use Rattle.cache.specs.Machine.{State, fresh}
-use Rattle.cache.specs.Caching.{prepared}
-use Rattle.cache.specs.Shapes.{ShapeMade}
+use Rattle.cache.specs.Samples.{ServesFive, PassesBy, SeventeenSlots}
 
 -- "P5" LF "3 2" LF "255" LF, then the samples
 abbrev pub file_a : List ℕ
@@ -66,35 +63,6 @@ at s u v = coded grey ((stepped grey s A).at u v)
 abbrev pub first_fault_of : Image Grey → Option Fault
 first_fault_of i = first_fault (λ k. i.at (k % i.width) (k / i.width)) (i.width * i.height)
 
--- one place of the top row
-abbrev pub place : (x : ℕ) → x + 1 ≤ 65535 → Rect
-place x h = record { left = x; top = 0; width = 1; height = 1; wide = lit≤ tt; high = lit≤ tt; across = h; down = lit≤ tt }
-
--- tiles of 2 by 2, one slot
-abbrev pub square : TileShape
-square = record { width = 2; height = 2; slots = 1; wide = lit≤ tt; high = lit≤ tt; small = lit≤ tt; some = lit≤ tt; few = lit≤ tt }
-
--- tiles of a single place, two slots
-abbrev pub single : TileShape
-single = record { width = 1; height = 1; slots = 2; wide = lit≤ tt; high = lit≤ tt; small = lit≤ tt; some = lit≤ tt; few = lit≤ tt }
-
--- the new cache of B behind a prepare of (0, 0), whose tile has a hole
-abbrev pub bypass : State
-bypass = prepared B square (place 0 (lit≤ tt)) 1 (fresh 0)
-
--- the new cache of A behind prepares of single places, the last of the list first
-abbrev pub singly : List Rect → State
-singly [] = fresh 0
-singly (r ∷ rs) = prepared A single r 1 (singly rs)
-
--- places 0, 1, 0, 2, 1 of the top row
-abbrev pub five : State
-five = singly (place 1 (lit≤ tt) ∷ (place 2 (lit≤ tt) ∷ (place 0 (lit≤ tt) ∷ (place 1 (lit≤ tt) ∷ (place 0 (lit≤ tt) ∷ [])))))
-
-abbrev pub RefusedBy5 : Result TileShape Refusal → Type 0
-RefusedBy5 (Ok s) = ⊥
-RefusedBy5 (Err e) = told e ≡ refused 5 []
-
 pub record Samples : Type 0 where
   pub long : length file_a ≡ 17
   pub header : header_of 53 file_a ≡ Ok (headed raster)
@@ -119,11 +87,11 @@ pub record Samples : Type 0 where
   -- 9: B, flip horizontal: the hole at (2, 1) comes first
   pub flipped : first_fault_of (stepped grey (Flip Horizontal) B) ≡ Some (fault_at 0 2 1 Missing)
   -- 10: B under a cache of 2 by 2 tiles and one slot, place (0, 0) prepared: 10, one bypass, and below was asked twice
-  pub passed : (answer B (place 0 (lit≤ tt)) 1 ≡ done) × (filled grey B (place 0 (lit≤ tt)) (0 ∷ []) ≡ 10 ∷ []) × (bypass.bypasses ≡ 1) × (bypass.asked ≡ 2)
+  pub passed : PassesBy B
   -- 11: A under a cache of 1 by 1 tiles and two slots, places 0, 1, 0, 2, 1 of the top row prepared singly: 1 hit, 4 fetches
-  pub singles : (five.hits ≡ 1) × (five.fetches ≡ 4) × (five.bypasses ≡ 0) × (five.asked ≡ 4)
+  pub singles : ServesFive A
   -- no cache has 17 slots
-  pub seventeen : (w h : ℕ) (r : Result TileShape Refusal) → ShapeMade w h 17 r → RefusedBy5 r
+  pub seventeen : SeventeenSlots
   -- a crop of the whole fits, and one that leaves it does not
   pub fits : fitting (Crop 0 0 3 2) 3 2 ≡ true
   pub leaves : fitting (Crop 1 0 3 2) 3 2 ≡ false
