@@ -27,5 +27,5 @@ returns g c =
     } in
     record {
       begun = b;
-      whole = joined-file o g.P.Picture.model g.P.Picture.count g.P.Picture.sound g.P.Picture.bare g.met.P.Picture.composed c.args.picture.now c.args.out.now c.put_header-bytes.result _ c.put_header-bytes.new.out c.requires b;
+      whole = joined-file o g.P.Picture.model g.P.Picture.count g.P.Picture.bare g.met.P.Picture.composed c.args.picture.now c.args.out.now c.put_header-bytes.result _ c.put_header-bytes.new.out b;
     }

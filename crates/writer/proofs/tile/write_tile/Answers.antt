@@ -25,8 +25,8 @@ returns-in-None g c =
     ap (λ n. tiles n i.height c.args.column c.args.row c.args.side) (sym c.size-size.ensures.width)
     ∙ ap (λ n. tiles z.width n c.args.column c.args.row c.args.side) (sym c.size-size.ensures.height) ∙ c.in-None.ensures in
     record {
-      part = ends.early_wrote o g.P.Picture.model g.P.Picture.count g.P.Picture.sound _ _ _ p c.args.work.now c.args.out.now NoTile _ 14
-          (squares.end_none o i c.args.column c.args.row c.args.side (length c.args.work.now) (length c.args.out.now) no) refl c.requires;
+      part = ends.early_wrote o g.P.Picture.model g.P.Picture.count _ _ _ p c.args.work.now c.args.out.now NoTile _ 14
+          (squares.end_none o i c.args.column c.args.row c.args.side (length c.args.work.now) (length c.args.out.now) no) refl;
     }
 
 -- the code's numbers are those of the tile
@@ -57,8 +57,8 @@ returns-then-work-area g c =
     let short : (length c.args.work.now < cut_places o i c.args.column c.args.row c.args.side) ⊎ (length c.args.out.now < tile_width o i c.args.column c.args.row c.args.side) =
     elim c.then-work-area.either [ inl l ↦ inl (omega (arith, l)) | inr l ↦ inr (omega (arith, l.1)) ] in
     record {
-      part = ends.early_wrote o g.P.Picture.model g.P.Picture.count g.P.Picture.sound _ _ _ p c.args.work.now c.args.out.now BufferTooShort _ 11
-          (squares.end_short o i c.args.column c.args.row c.args.side (length c.args.work.now) (length c.args.out.now) is.there short) refl c.requires;
+      part = ends.early_wrote o g.P.Picture.model g.P.Picture.count _ _ _ p c.args.work.now c.args.out.now BufferTooShort _ 11
+          (squares.end_short o i c.args.column c.args.row c.args.side (length c.args.work.now) (length c.args.out.now) is.there short) refl;
     }
 
 pub returns-in-Err : goal.returns-in-Err
@@ -80,7 +80,7 @@ returns-in-Err g c =
     let room : cut_places o i col row side ≤ length work = omega (arith, c.if-work-area.false) in
     let e = squares.end_open o i col row side (length work) (length out) is.there room (omega (arith, c.if-out-bytes.false)) in
     record {
-      part = ends.holed-wrote o g.P.Picture.model g.P.Picture.count g.P.Picture.sound (place_of (cut o i col row side)) (cut_places o i col row side) (file o (tile o i col row side)) p work out x
+      part = ends.holed-wrote o g.P.Picture.model g.P.Picture.count (place_of (cut o i col row side)) (cut_places o i col row side) (file o (tile o i col row side)) p work out x
           c.prepare.new.self c.prepare.new.buffer part room c.in-Err.refusal (tile_end o i col row side (length work) (length out)) e c.in-Err.ensures;
     }
 
@@ -100,8 +100,8 @@ put_square-end-requires g c =
     let part = squares.cut-part o i col row side x is in
     let places : c.area.result ≡ cut_places o i col row side = c.area.ensures ∙ part.many in
     let room : cut_places o i col row side ≤ length work = omega (arith, c.if-work-area.false) in
-    let clean = ends.clean o g.P.Picture.model g.P.Picture.count g.P.Picture.sound (place_of (cut o i col row side)) (cut_places o i col row side) (file o (tile o i col row side)) p work out x c.prepare.new.self c.prepare.new.buffer part room c.in-Ok.ensures in
-    let are = ends.codes_are o g.P.Picture.model g.P.Picture.count g.P.Picture.sound (place_of (cut o i col row side)) (cut_places o i col row side) (file o (tile o i col row side)) p work out x c.prepare.new.self c.prepare.new.buffer part room c.in-Ok.ensures in
+    let clean = ends.clean o g.P.Picture.model g.P.Picture.count (place_of (cut o i col row side)) (cut_places o i col row side) (file o (tile o i col row side)) p work out x c.prepare.new.self c.prepare.new.buffer part room c.in-Ok.ensures in
+    let are = ends.codes_are o g.P.Picture.model g.P.Picture.count (place_of (cut o i col row side)) (cut_places o i col row side) (file o (tile o i col row side)) p work out x c.prepare.new.self c.prepare.new.buffer part room c.in-Ok.ensures in
     let turn : x.height * x.width ≡ cut_places o i col row side = mul_comm x.height x.width ∙ part.many in
     record {
       codes = omega (arith, c.prepare.auto.buffer);
@@ -115,7 +115,7 @@ put_square-end-requires g c =
           let D : List ℕ → Type 0 = λ t. Known o z.maxval (o.decode (get_or t k 0)) in
           let E : ℕ → Type 0 = λ m. Known o m (o.decode (get_or (put None (λ j. code_at o (place_of (cut o i col row side) j)) (cut_places o i col row side) work) k 0)) in
           subst D (sym are) (subst E (sym c.size-size.ensures.maxval)
-          (codes.known o g.met.P.Pixel.Kind.decodes i.maxval (place_of (cut o i col row side)) (cut_places o i col row side) work clean (squares.cut_dim o i col row side x is (g.met.P.Picture.bounded p c.requires)) k (omega arith)));
+          (codes.known o g.met.P.Pixel.Kind.decodes i.maxval (place_of (cut o i col row side)) (cut_places o i col row side) work clean (squares.cut_dim o i col row side x is (g.met.P.Picture.bounded p)) k (omega arith)));
       under = c.padding-pad.ensures.under;
     }
 
@@ -139,8 +139,8 @@ returns g c =
     let fit : tile_width o i col row side ≤ length out = omega (arith, c.if-out-bytes.false) in
     let e = squares.end_open o i col row side (length work) (length out) is.there room fit in
     let buffer = c.prepare.new.buffer in
-    let clean = ends.clean o g.P.Picture.model g.P.Picture.count g.P.Picture.sound (place_of (cut o i col row side)) (cut_places o i col row side) (file o (tile o i col row side)) p work out x c.prepare.new.self buffer part room c.in-Ok.ensures in
-    let are = ends.codes_are o g.P.Picture.model g.P.Picture.count g.P.Picture.sound (place_of (cut o i col row side)) (cut_places o i col row side) (file o (tile o i col row side)) p work out x c.prepare.new.self buffer part room c.in-Ok.ensures in
+    let clean = ends.clean o g.P.Picture.model g.P.Picture.count (place_of (cut o i col row side)) (cut_places o i col row side) (file o (tile o i col row side)) p work out x c.prepare.new.self buffer part room c.in-Ok.ensures in
+    let are = ends.codes_are o g.P.Picture.model g.P.Picture.count (place_of (cut o i col row side)) (cut_places o i col row side) (file o (tile o i col row side)) p work out x c.prepare.new.self buffer part room c.in-Ok.ensures in
     let pad = c.padding-pad.result in
     let ground : (at : ℕ → ℕ → Place g.row.P-Pixel.Denot) (W H : ℕ) (u v : ℤ) → taken o i.maxval at (grounded (ground_of None) W H u v) ≡ pixel pad =
     λ at W H u v. ap (λ (m : ℕ). taken o m at (grounded (ground_of None) W H u v)) (sym c.size-size.ensures.maxval) ∙ c.padding-pad.ensures.shown at W H u v in
@@ -148,7 +148,7 @@ returns g c =
     λ k h. ap (λ t. get_or t k 0) are ∙ codes.code_at_lem (λ j. code_at o (place_of (cut o i col row side) j)) (cut_places o i col row side) work k h in
     let long : cut_places o i col row side ≤ length buffer = omega (arith, c.prepare.auto.buffer) in
     record {
-      part = ends.done_wrote o g.P.Picture.model g.P.Picture.count g.P.Picture.sound (place_of (cut o i col row side)) (cut_places o i col row side) (file o (tile o i col row side)) p work out x
+      part = ends.done_wrote o g.P.Picture.model g.P.Picture.count (place_of (cut o i col row side)) (cut_places o i col row side) (file o (tile o i col row side)) p work out x
           c.prepare.new.self buffer part room c.in-Ok.ensures (tile_end o i col row side (length work) (length out)) (c.header_bytes.result + side * side * c.pixel_bytes.result) c.put_square-end.new.out e
           (bytes ∙ sym (squares.file_long o i col row side pad ground g.met.P.Pixel.Kind.decodes buffer clean shown long g.met.P.Pixel.Kind.deep))
           (squares.file-written o i col row side pad ground g.met.P.Pixel.Kind.decodes buffer clean shown long g.met.P.Pixel.Kind.deep out c.put_header-head.new.out c.put_square-end.new.out

@@ -27,7 +27,6 @@ loop-writer-init g c =
     let w = c.args.writer in
     let n : i.width * w.next ≡ 0 = ap (λ k. i.width * k) c.requires.begun ∙ mul-zero i.width in (
       refl,
-      c.requires.sound,
       record {
         fit = c.requires.fits;
         room = c.requires.room;
@@ -39,11 +38,11 @@ loop-writer-init g c =
     )
 
 pub slice_bounds-strip-count : goal.slice_bounds-strip-count
-slice_bounds-strip-count g c = wholes.end_in g.P.Pixel.Kind.ops (g.P.Picture.model c.args.picture.now).shown c.loop-writer.writer c.args.head c.loop-writer.end c.args.out.now c.loop-writer.out c.loop-writer.invariant.2
+slice_bounds-strip-count g c = wholes.end_in g.P.Pixel.Kind.ops (g.P.Picture.model c.args.picture.now).shown c.loop-writer.writer c.args.head c.loop-writer.end c.args.out.now c.loop-writer.out c.loop-writer.invariant.1
 
 pub slice_bounds-strip-start : goal.slice_bounds-strip-start
 slice_bounds-strip-start g c =
-    let h = wholes.end_in g.P.Pixel.Kind.ops (g.P.Picture.model c.args.picture.now).shown c.loop-writer.writer c.args.head c.loop-writer.end c.args.out.now c.loop-writer.out c.loop-writer.invariant.2 in
+    let h = wholes.end_in g.P.Pixel.Kind.ops (g.P.Picture.model c.args.picture.now).shown c.loop-writer.writer c.args.head c.loop-writer.end c.args.out.now c.loop-writer.out c.loop-writer.invariant.1 in
     search rules
 
 -- a strip that was answered
@@ -60,9 +59,9 @@ went g c =
     let part = take (length out - end) (drop end out) in
     let x = c.in-Ok.ensures in
     let e : (g.P.Picture.model c.loop-writer.picture).shown ≡ i = ap (λ (m : Model g.row.P-Pixel.Denot). m.shown) c.loop-writer.invariant.0 in
-    wholes.turn_wrote o i v c.args.head end c.args.out.now out c.loop-writer.invariant.2 c.args.height (length c.loop-writer.work) part c.loop-writer-test.true c.requires.some
+    wholes.turn_wrote o i v c.args.head end c.args.out.now out c.loop-writer.invariant.1 c.args.height (length c.loop-writer.work) part c.loop-writer-test.true c.requires.some
     (let h = c.loop-writer.auto.work in let k = c.requires.codes in omega arith) (behind_long out end) g.met.P.Pixel.Kind.deep c.in-Ok.bytes c.strip.new.self c.strip.new.out
-    (wholes.turned o g.P.Picture.model g.P.Picture.count g.P.Picture.sound i c.loop-writer.picture c.args.height v c.loop-writer.work part (Ok c.in-Ok.bytes) c.strip.new.picture c.strip.new.self
+    (wholes.turned o g.P.Picture.model g.P.Picture.count i c.loop-writer.picture c.args.height v c.loop-writer.work part (Ok c.in-Ok.bytes) c.strip.new.picture c.strip.new.self
     c.strip.new.work c.strip.new.out e x) refl x.size x.mark
 
 pub overflow_add-end : goal.overflow_add-end
@@ -74,7 +73,7 @@ overflow_add-end g c =
     search rules
 
 pub loop-writer-preserved : goal.loop-writer-preserved
-loop-writer-preserved g c = (c.in-Ok.ensures.part.keeps ∙ c.loop-writer.invariant.0, c.in-Ok.ensures.part.stays, (went g c).1)
+loop-writer-preserved g c = (c.in-Ok.ensures.part.keeps ∙ c.loop-writer.invariant.0, (went g c).1)
 
 -- fewer rows are left
 fewer : (v v' : RowWriter) (s : ℕ) → v.next < v.size.height → 1 ≤ s → v'.size ≡ v.size → v'.next ≡ v.next + rows_of v s → v'.size.height - v'.next < v.size.height - v.next
@@ -94,23 +93,21 @@ returns-in-Err g c =
     let x = c.in-Err.ensures in
     let e : (g.P.Picture.model c.loop-writer.picture).shown ≡ i = ap (λ (m : Model g.row.P-Pixel.Denot). m.shown) c.loop-writer.invariant.0 in
     record {
-      answers = wholes.turn_holed o i v c.args.head end c.args.out.now out c.loop-writer.invariant.2 c.args.height (length c.loop-writer.work) part c.loop-writer-test.true c.requires.some
+      answers = wholes.turn_holed o i v c.args.head end c.args.out.now out c.loop-writer.invariant.1 c.args.height (length c.loop-writer.work) part c.loop-writer-test.true c.requires.some
           (let h = c.loop-writer.auto.work in let k = c.requires.codes in omega arith) (behind_long out end) c.in-Err.refusal c.strip.new.self c.strip.new.out
-          (wholes.turned o g.P.Picture.model g.P.Picture.count g.P.Picture.sound i c.loop-writer.picture c.args.height v c.loop-writer.work part (Err c.in-Err.refusal) c.strip.new.picture
+          (wholes.turned o g.P.Picture.model g.P.Picture.count i c.loop-writer.picture c.args.height v c.loop-writer.work part (Err c.in-Err.refusal) c.strip.new.picture
           c.strip.new.self c.strip.new.work c.strip.new.out e x);
       writes = λ z. absurd (not_done c.in-Err.refusal z);
       keeps = x.part.keeps ∙ c.loop-writer.invariant.0;
-      stays = x.part.stays;
     }
 
 pub returns-in-Ok-finish : goal.returns-in-Ok-finish
 returns-in-Ok-finish g c =
     let o = g.P.Pixel.Kind.ops in
     let i = (g.P.Picture.model c.args.picture.now).shown in
-    let w = wholes.all_written o i c.loop-writer.writer c.args.head c.loop-writer.end c.args.out.now c.loop-writer.out c.loop-writer.invariant.2 g.met.P.Pixel.Kind.deep c.in-Ok-finish.ensures in
+    let w = wholes.all_written o i c.loop-writer.writer c.args.head c.loop-writer.end c.args.out.now c.loop-writer.out c.loop-writer.invariant.1 g.met.P.Pixel.Kind.deep c.in-Ok-finish.ensures in
     record {
       answers = ap (λ z. end_outcome (ending None z)) (sym w.0);
       writes = λ z. (w.1, w.2);
       keeps = c.loop-writer.invariant.0;
-      stays = c.loop-writer.invariant.1;
     }

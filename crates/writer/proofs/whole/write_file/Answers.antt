@@ -24,8 +24,8 @@ module _ {K S : Type 0} (o : Ops K S) (i : Image K) (z : Size) (ew : z.width ≡
 
 pub returns-then-height-eq0 : goal.returns-then-height-eq0
 returns-then-height-eq0 g c =
-    wholes.early_filed g.P.Pixel.Kind.ops g.P.Picture.model g.P.Picture.count g.P.Picture.sound c.args.picture.now c.args.height c.args.work.now c.args.out.now 15 NoRows
-    (wholes.end_zero g.P.Pixel.Kind.ops (g.P.Picture.model c.args.picture.now).shown c.args.height (length c.args.work.now) (length c.args.out.now) c.if-height-eq0.true) refl c.requires
+    wholes.early_filed g.P.Pixel.Kind.ops g.P.Picture.model g.P.Picture.count c.args.picture.now c.args.height c.args.work.now c.args.out.now 15 NoRows
+    (wholes.end_zero g.P.Pixel.Kind.ops (g.P.Picture.model c.args.picture.now).shown c.args.height (length c.args.work.now) (length c.args.out.now) c.if-height-eq0.true) refl
 
 pub returns-then-work-wide : goal.returns-then-work-wide
 returns-then-work-wide g c =
@@ -37,8 +37,8 @@ returns-then-work-wide g c =
     let co = codes_are o i z c.size-size.ensures.width c.size-size.ensures.height c.size-size.ensures.maxval s c.min.result c.min.ensures in
     let short : (length c.args.work.now < i.width * min s i.height) ⊎ (length c.args.out.now < file_width o i) =
     elim c.then-work-wide.either [ inl l ↦ inl (omega (arith, l)) | inr l ↦ inr (omega (arith, l.1)) ] in
-    wholes.early_filed o g.P.Picture.model g.P.Picture.count g.P.Picture.sound c.args.picture.now s c.args.work.now c.args.out.now 11 BufferTooShort
-    (wholes.end_short o i s (length c.args.work.now) (length c.args.out.now) c.if-height-eq0.false short) refl c.requires
+    wholes.early_filed o g.P.Picture.model g.P.Picture.count c.args.picture.now s c.args.work.now c.args.out.now 11 BufferTooShort
+    (wholes.end_short o i s (length c.args.work.now) (length c.args.out.now) c.if-height-eq0.false short) refl
 
 pub put_strips-requires : goal.put_strips-requires
 put_strips-requires g c =
@@ -51,7 +51,6 @@ put_strips-requires g c =
     let x = c.in-Ok.ensures.begun in
     let w = c.in-Ok.begun.1 in
     record {
-      sound = c.requires;
       fits = and_from (eqb w.size.width i.width && eqb w.size.height i.height) (eqb w.size.maxval i.maxval && eqb w.mark o.mark)
           (and_from (eqb w.size.width i.width) (eqb w.size.height i.height) (eq-eqb _ _ x.width) (eq-eqb _ _ x.height))
           (and_from (eqb w.size.maxval i.maxval) (eqb w.mark o.mark) (eq-eqb _ _ x.maxval) (eq-eqb _ _ x.mark));
@@ -70,7 +69,7 @@ returns-in-Ok g c =
     let by = bytes_are o i z c.size-size.ensures.width c.size-size.ensures.height c.size-size.ensures.maxval c.header_bytes.result c.pixel_bytes.result c.header_bytes.ensures.value c.pixel_bytes.ensures.value in
     let co = codes_are o i z c.size-size.ensures.width c.size-size.ensures.height c.size-size.ensures.maxval s c.min.result c.min.ensures in
     let x = c.in-Ok.ensures.begun in
-    wholes.filed o g.P.Picture.model g.P.Picture.count g.P.Picture.sound c.args.picture.now s c.args.work.now c.args.out.now c.put_strips.result c.put_strips.new.picture c.put_strips.new.work
+    wholes.filed o g.P.Picture.model g.P.Picture.count c.args.picture.now s c.args.work.now c.args.out.now c.put_strips.result c.put_strips.new.picture c.put_strips.new.work
     c.put_strips.new.out (first_fault (place_of i) (i.width * i.height))
     (wholes.end_room o i s (length c.args.work.now) (length c.args.out.now) c.if-height-eq0.false (omega (arith, c.if-work-wide.false)) (omega (arith, c.if-out-bytes.false)))
     c.put_strips.ensures.answers
@@ -80,7 +79,7 @@ returns-in-Ok g c =
       wholes.file-written o i c.args.out.now c.begin.new.out c.put_strips.new.out c.in-Ok.begun.0 x.writes x.amounts w.0 (omega (arith, c.if-out-bytes.false, x.amounts)),
       w.1 ∙ ap (λ n. n + length (raster o i)) x.amounts ∙ sym (length-append (header_of o i) (raster o i)),
     ))
-    c.put_strips.ensures.keeps c.put_strips.ensures.stays
+    c.put_strips.ensures.keeps
 
 pub returns-in-Err : goal.returns-in-Err
 returns-in-Err g c =
