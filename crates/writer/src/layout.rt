@@ -1,22 +1,11 @@
 ghost use Rattle.std.specs.Prelude.{◌≡◌, ℕ, ◌+◌, ◌-◌, ◌*◌, ◌<◌, ◌≤◌, length, slice_index};
 ghost use Rattle.std.specs.List.{flat_map};
 ghost use Rattle.pixel.specs.Ops.{Under};
-ghost use Rattle.writer.specs.File.{sample_width, sample_bytes, pixel_width, pixel_bytes};
+ghost use Rattle.pixel.specs.Widths.{sample_width, pixel_width};
+ghost use Rattle.writer.specs.File.{sample_bytes, pixel_bytes};
 ghost use Rattle.writer.specs.Layout.{pasted, repeated, code_bytes, Known, row_bytes, rows_bytes};
 
 use pixel::Kind;
-
-/// How many bytes a pixel has.
-pub(crate) fn pixel_bytes<K: Kind>(maxval: u16) -> usize
-    ensures value { result ≡ pixel_width K.ops maxval }
-    ensures few { result ≤ 6 }
-{
-    if maxval < 256 {
-        K::depth()
-    } else {
-        K::depth() * 2
-    }
-}
 
 /// Writes a sample from the place `p` on, and answers the place behind it.
 fn put_sample(out: &mut [u8], p: usize, sample: u16, maxval: u16) -> usize

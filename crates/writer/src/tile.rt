@@ -3,31 +3,24 @@ ghost use Rattle.pixel.specs.Ops.{Under};
 ghost use Rattle.picture.specs.Places.{Place, pixel};
 ghost use Rattle.picture.specs.Steps.{ground_of, grounded};
 ghost use Rattle.picture.specs.Compose.{taken};
-ghost use Rattle.writer.specs.File.{pixel_width};
+ghost use Rattle.pixel.specs.Widths.{pixel_width};
 ghost use Rattle.writer.specs.Layout.{pasted, Known, square_bytes};
 ghost use Rattle.writer.specs.Tiles.{Seen, Tiled};
 
 use crate::header::{header_bytes, put_header};
-use crate::layout::{pixel_bytes, put_rows, put_same};
+use crate::layout::{put_rows, put_same};
 use picture::{Ground, Picture, Rect, Refusal, Size};
-use pixel::Kind;
+use pixel::{Kind, pixel_bytes};
 
 /// The largest side of a tile.
 const LARGEST: u32 = 256;
-
-/// The ground of an embedding that names none.
-fn default_ground() -> Ground
-    ensures { result ≡ ground_of None }
-{
-    Ground::Black
-}
 
 /// The pixel that an embedding shows beside the picture that it holds, if it names no ground.
 fn padding<K: Kind>(maxval: u16) -> K
     ensures shown { (at : ℕ → ℕ → Place K) (W H : ℕ) (x y : ℤ) → taken K.ops maxval at (grounded (ground_of None) W H x y) ≡ pixel result }
     ensures under { Under maxval (K.ops.samples result) }
 {
-    match default_ground() {
+    match Ground::default() {
         Ground::Black => K::black(),
         Ground::White => K::white(maxval),
         Ground::Copy => unreachable(),
@@ -90,21 +83,15 @@ pub fn write_tile<P: Picture>(
     ensures { Tiled P.Pixel.ops P.model P.count picture.old column row side work.old out.old result picture.new work.new out.new }
 {
     let size = picture.size();
-    let part = match visible(size, column, row, side) {
-        Some(part) => part,
-        None => return Err(Refusal::NoTile),
-    };
+    let part = visible(size, column, row, side).ok_or(Refusal::NoTile)?;
     let square = side as usize * side as usize;
     let bytes = header_bytes(side, side, size.maxval)
         + square * pixel_bytes::<P::Pixel>(size.maxval);
     if work.len() < part.area() || out.len() < bytes {
         return Err(Refusal::BufferTooShort);
     }
-    match picture.prepare(part, work) {
-        Ok(()) => {}
-        Err(refusal) => return Err(refusal),
-    }
-    let head = put_header(out, <P::Pixel as Kind>::mark(), side, side, size.maxval);
+    picture.prepare(part, work)?;
+    let head = put_header(out, P::Pixel::mark(), side, side, size.maxval);
     let pad = padding::<P::Pixel>(size.maxval);
     let _end = put_square(
         out,

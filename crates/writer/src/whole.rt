@@ -7,11 +7,10 @@ ghost use Rattle.writer.specs.Calls.{ending, outcome_of, amount, end_outcome, fi
 ghost use Rattle.writer.specs.Whole.{Filed};
 
 use crate::header::header_bytes;
-use crate::layout::pixel_bytes;
 use crate::row_writer::RowWriter;
 use crate::rows::begin;
 use picture::{Picture, Refusal};
-use pixel::Kind;
+use pixel::{Kind, pixel_bytes};
 
 /// Writes all rows behind the header, by strips of this height, and ends the writer; answers the place behind them.
 fn put_strips<P: Picture>(
@@ -69,11 +68,6 @@ pub fn write_file<P: Picture>(
     if work.len() < wide * height.min(size.height) as usize || out.len() < bytes {
         return Err(Refusal::BufferTooShort);
     }
-    match begin(picture, out) {
-        Ok(begun) => {
-            let (head, writer) = begun;
-            put_strips(writer, picture, height, work, out, head)
-        }
-        Err(refusal) => Err(refusal),
-    }
+    let (head, writer) = begin(picture, out)?;
+    put_strips(writer, picture, height, work, out, head)
 }

@@ -48,8 +48,8 @@ put_strips-requires g c =
     let s = c.args.height in
     let by = bytes_are o i z c.size-size.ensures.width c.size-size.ensures.height c.size-size.ensures.maxval c.header_bytes.result c.pixel_bytes.result c.header_bytes.ensures.value c.pixel_bytes.ensures.value in
     let co = codes_are o i z c.size-size.ensures.width c.size-size.ensures.height c.size-size.ensures.maxval s c.min.result c.min.ensures in
-    let x = c.in-Ok.ensures.begun in
-    let w = c.in-Ok.begun.1 in
+    let x = c.in_ok-head.ensures.begun in
+    let w = c.in_ok-head.writer in
     record {
       fits = and_from (eqb w.size.width i.width && eqb w.size.height i.height) (eqb w.size.maxval i.maxval && eqb w.mark o.mark)
           (and_from (eqb w.size.width i.width) (eqb w.size.height i.height) (eq-eqb _ _ x.width) (eq-eqb _ _ x.height))
@@ -60,15 +60,15 @@ put_strips-requires g c =
       room = omega (arith, c.if-out-bytes.false, x.amounts, c.begin.auto.out);
     }
 
-pub returns-in-Ok : goal.returns-in-Ok
-returns-in-Ok g c =
+pub returns : goal.returns
+returns g c =
     let o = g.P.Pixel.Kind.ops in
     let i = (g.P.Picture.model c.args.picture.now).shown in
     let z = c.size-size.result in
     let s = c.args.height in
     let by = bytes_are o i z c.size-size.ensures.width c.size-size.ensures.height c.size-size.ensures.maxval c.header_bytes.result c.pixel_bytes.result c.header_bytes.ensures.value c.pixel_bytes.ensures.value in
     let co = codes_are o i z c.size-size.ensures.width c.size-size.ensures.height c.size-size.ensures.maxval s c.min.result c.min.ensures in
-    let x = c.in-Ok.ensures.begun in
+    let x = c.in_ok-head.ensures.begun in
     wholes.filed o g.P.Picture.model g.P.Picture.count c.args.picture.now s c.args.work.now c.args.out.now c.put_strips.result c.put_strips.new.picture c.put_strips.new.work
     c.put_strips.new.out (first_fault (place_of i) (i.width * i.height))
     (wholes.end_room o i s (length c.args.work.now) (length c.args.out.now) c.if-height-eq0.false (omega (arith, c.if-work-wide.false)) (omega (arith, c.if-out-bytes.false)))
@@ -76,16 +76,16 @@ returns-in-Ok g c =
     (λ d.
     let w = c.put_strips.ensures.writes d in
     let long = wholes.raster_long o g.met.P.Pixel.Kind.deep i (sym d ∙ c.put_strips.ensures.answers) in (
-      wholes.file-written o i c.args.out.now c.begin.new.out c.put_strips.new.out c.in-Ok.begun.0 x.writes x.amounts w.0 (omega (arith, c.if-out-bytes.false, x.amounts)),
+      wholes.file-written o i c.args.out.now c.begin.new.out c.put_strips.new.out c.in_ok-head.head x.writes x.amounts w.0 (omega (arith, c.if-out-bytes.false, x.amounts)),
       w.1 ∙ ap (λ n. n + length (raster o i)) x.amounts ∙ sym (length-append (header_of o i) (raster o i)),
     ))
     c.put_strips.ensures.keeps
 
-pub returns-in-Err : goal.returns-in-Err
-returns-in-Err g c =
+pub returns-in_err-head : goal.returns-in_err-head
+returns-in_err-head g c =
     let o = g.P.Pixel.Kind.ops in
     let i = (g.P.Picture.model c.args.picture.now).shown in
     let z = c.size-size.result in
     let by = bytes_are o i z c.size-size.ensures.width c.size-size.ensures.height c.size-size.ensures.maxval c.header_bytes.result c.pixel_bytes.result c.header_bytes.ensures.value c.pixel_bytes.ensures.value in
-    let x = c.in-Err.ensures.begun.0 in
+    let x = c.in_err-head.ensures.begun.0 in
     absurd (omega (arith, c.if-out-bytes.false))
