@@ -46,8 +46,8 @@ pub(crate) fn put_codes<K: Kind>(out: &mut [u8], p: usize, codes: &[u64], maxval
     ensures out { out.new ≡ pasted out.old p (flat_map (code_bytes K.ops maxval) codes.now) }
 {
     let mut at = p;
-    for k in 0..codes.len() {
-        if let Some(pixel) = K::decode(codes[k]) {
+    for code in codes {
+        if let Some(pixel) = K::decode(*code) {
             at = put_pixel(out, at, pixel, maxval);
         }
     }
@@ -68,7 +68,7 @@ pub(crate) fn put_same<K: Kind>(
     ensures out { out.new ≡ pasted out.old p (repeated (pixel_bytes K.ops maxval pixel) count) }
 {
     let mut at = p;
-    for _k in 0..count {
+    for _ in 0..count {
         at = put_pixel(out, at, pixel, maxval);
     }
     at

@@ -37,23 +37,6 @@ impl RowWriter {
         self.size == picture.size() && self.mark == P::Pixel::mark()
     }
 
-    /// The next rows.
-    fn part(&self, rows: u32) -> Rect
-        requires some { 1 ≤ rows }
-        requires left { self.now.next + rows ≤ self.now.size.height }
-        ensures left { result.left ≡ 0 }
-        ensures top { result.top ≡ self.now.next }
-        ensures width { result.width ≡ self.now.size.width }
-        ensures height { result.height ≡ rows }
-    {
-        Rect {
-            left: 0,
-            top: self.next,
-            width: self.size.width,
-            height: rows,
-        }
-    }
-
     /// Writes the next rows, as many as `height` and as are left, at the start of the buffer; answers how many bytes they have. The work buffer holds their codes.
     pub fn strip<P: Picture>(
         &mut self,
@@ -76,7 +59,12 @@ impl RowWriter {
         if work.len() < places || out.len() < bytes {
             return Err(Refusal::BufferTooShort);
         }
-        let part = self.part(rows);
+        let part = Rect {
+            left: 0,
+            top: self.next,
+            width: self.size.width,
+            height: rows,
+        };
         picture.prepare(part, work)?;
         let _end = put_codes::<P::Pixel>(out, 0, &work[..places], self.size.maxval);
         self.next += rows;
