@@ -10,9 +10,8 @@ use Rattle.picture.specs.Places.{first_fault}
 use Rattle.picture.specs.Images.{Model, Bounded}
 use Rattle.picture.specs.Prepare.{put, code_at, Prepared}
 use Rattle.writer.specs.declared.row_writer.RowWriter.{RowWriter}
-use Rattle.writer.specs.Layout.{pasted, code_bytes, Known}
-use Rattle.writer.specs.Calls.{ending, outcome_of, fits, rows_of, places_of, ahead, strip_bytes, strip_end, Strip}
-use Rattle.writer.proofs.Paste.{pasted_front}
+use Rattle.writer.specs.Layout.{code_bytes, Known}
+use Rattle.writer.specs.Calls.{over, ending, outcome_of, fits, rows_of, places_of, ahead, strip_bytes, strip_end, Strip}
 use Rattle.writer.proofs.Ends as ends
 use Rattle.writer.proofs.Ends.{Part}
 use Rattle.writer.proofs.Codes as codes
@@ -80,7 +79,7 @@ module _ {P K S : Type 0} (o : Ops K S) (model : P → Model K) (count : P → �
 
       -- their bytes are written at the start
       pub put_down : ((k : K) → o.decode (o.code k) ≡ Some k) → ((k : K) → length (o.samples k) ≡ o.depth) → (w' : RowWriter) (out' : List ℕ)
-          → w'.next ≡ w.next + rows → w'.size ≡ w.size → w'.mark ≡ w.mark → out' ≡ pasted out 0 (flat_map (code_bytes o w.size.maxval) (take n work'))
+          → w'.next ≡ w.next + rows → w'.size ≡ w.size → w'.mark ≡ w.mark → out' ≡ over (flat_map (code_bytes o w.size.maxval) (take n work')) out
           → Strip o model count p s w work out (Ok (n * b)) q w' work' out'
       put_down decodes deep w' out' next size mark z =
           let i = (model p).shown in
@@ -93,5 +92,5 @@ module _ {P K S : Type 0} (o : Ops K S) (model : P → Model K) (count : P → �
           ∙ codes.codes_reading o decodes i (w.size.width * w.next) (places_of w s) work clean in
           let ln = codes.reading_long o deep i (w.size.width * w.next) (places_of w s) clean ∙ ap (λ k. places_of w s * pixel_width o k) (sym bright) in
           let y = ends.done_wrote o model count (ahead i w) (places_of w s) (strip_bytes o i w s) p work out r q work' (part_is left top width height) (omega arith) d
-          end (n * b) out' opens (bytes ∙ sym ln) (z ∙ ap (pasted out 0) read ∙ pasted_front out (strip_bytes o i w s)) in
+          end (n * b) out' opens (bytes ∙ sym ln) (z ∙ ap (λ t. over t out) read) in
           record { part = y; next = next ∙ ap (λ k. w.next + k) (many ∙ sym (ends.full end (rows_of w s) y.answers)); size = size; mark = mark }

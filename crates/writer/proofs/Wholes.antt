@@ -1,7 +1,6 @@
 -- One strip after another up to the last row.
-use Rattle.std.proofs.Common.{◌≡◌, ℕ, ◌+◌, ◌-◌, ◌*◌, ◌<◌, ◌≤◌, min, true, false, ◌&&◌, eqb, leb, ◌⊎◌, List, [], ◌++◌, length, take, drop, Some, None, Ok, Err, Option, Result, sym, refl, ap, ◌∙◌, subst, inl, inr, mul-le-mul_right, add-mul, zero-add, mul-add, arith, length-drop}
-use borrow.Rule.Slice.PartMut.{put_mid, post_of}
-use Rattle.std.proofs.lemmas.List.{append-nil, drop-drop, drop_all, take_all}
+use Rattle.std.proofs.Common.{◌≡◌, ℕ, ◌+◌, ◌-◌, ◌*◌, ◌<◌, ◌≤◌, min, true, false, ◌&&◌, eqb, leb, ◌⊎◌, List, [], ◌++◌, length, take, drop, Some, None, Ok, Err, Option, Result, sym, refl, ap, ◌∙◌, subst, inl, inr, mul-le-mul_right, add-mul, zero-add, mul-add, arith}
+use borrow.Rule.Slice.PartMut.{put_mid}
 use Rattle.std.proofs.lemmas.Nat.{mul-le}
 use Rattle.std.proofs.lemmas.Bool.{and_from, and_left, and_right, cond-true, cond-false, eq-eqb, ne_eqb, le-leb, lt-leb}
 use Rattle.pixel.specs.Ops.{Ops}
@@ -16,21 +15,10 @@ use Rattle.writer.specs.File.{place_of, pixel_width, reading, header_of, raster,
 use Rattle.writer.specs.Whole.{file_width, file_end, Left, Filed}
 use Rattle.writer.specs.Layout.{pasted}
 use Rattle.writer.specs.Calls.{End, early, wrote, ending, outcome_of, amount, end_outcome, end_amount, end_bytes, over, rows_of, places_of, ahead, fits, strip_end, strip_bytes, Strip}
-use Rattle.writer.proofs.Paste.{pasted-next, pasted_front, length-pasted}
+use Rattle.writer.proofs.Paste.{pasted-next, pasted_front, length-pasted, put-behind}
 use Rattle.writer.proofs.Codes.{reading_long}
 use Rattle.writer.proofs.Nexts.{as_wide, as_high, as_bright, ahead_in, end_open}
 use Rattle.writer.proofs.Logs.{reading_join}
-
--- a write at the start of what lies behind a place
-pub put-behind : (out : List ℕ) (a : ℕ) (bytes part : List ℕ) → a ≤ length out → part ≡ over bytes (take (length out - a) (drop a out)) → put_mid a (length out - a) out part ≡ pasted out a bytes
-unfolding pasted
-put-behind out a bytes part h e =
-    let l = length-drop a out in
-    let t : take (length out - a) (drop a out) ≡ drop a out = take_all (length out - a) (drop a out) (omega arith) in
-    let z : a + (length out - a) ≡ length out = omega arith in
-    ap (λ x. take a out ++ (x ++ post_of a (length out - a) out)) (e ∙ ap (over bytes) t ∙ ap (λ x. bytes ++ x) (drop-drop (length bytes) a out))
-    ∙ ap (λ x. take a out ++ ((bytes ++ drop (a + length bytes) out) ++ x)) (drop-drop (length out - a) a out ∙ ap (λ n. drop n out) z ∙ drop_all (length out) out (omega arith))
-    ∙ ap (λ x. take a out ++ x) (append-nil (bytes ++ drop (a + length bytes) out))
 
 no_hole : (x : Option Fault) → done ≡ end_outcome (ending None x) → x ≡ None
 no_hole None e = refl

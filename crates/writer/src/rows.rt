@@ -66,7 +66,7 @@ impl RowWriter {
             height: rows,
         };
         picture.prepare(part, work)?;
-        let _end = put_codes::<P::Pixel>(out, 0, &work[..places], self.size.maxval);
+        put_codes::<P::Pixel>(out, &work[..places], self.size.maxval);
         self.next += rows;
         Ok(bytes)
     }

@@ -4,7 +4,8 @@ ghost use Rattle.picture.specs.Places.{Place, pixel};
 ghost use Rattle.picture.specs.Steps.{ground_of, grounded};
 ghost use Rattle.picture.specs.Compose.{taken};
 ghost use Rattle.pixel.specs.Widths.{pixel_width};
-ghost use Rattle.writer.specs.Layout.{pasted, Known, square_bytes};
+ghost use Rattle.writer.specs.Layout.{Known, square_bytes};
+ghost use Rattle.writer.specs.Calls.{over};
 ghost use Rattle.writer.specs.Tiles.{Seen, Tiled};
 
 use crate::header::{header_bytes, put_header};
@@ -49,7 +50,6 @@ fn visible(size: Size, column: u32, row: u32, side: u32) -> Option<Rect>
 /// Writes rows of codes, padded to a square.
 fn put_square<K: Kind>(
     out: &mut [u8],
-    p: usize,
     codes: &[u64],
     wide: usize,
     high: usize,
@@ -61,14 +61,14 @@ fn put_square<K: Kind>(
     requires across { wide ≤ side }
     requires down { high ≤ side }
     requires small { side ≤ 256 }
-    requires room { p + side * side * pixel_width K.ops maxval ≤ length out.old }
+    requires room { side * side * pixel_width K.ops maxval ≤ length out.old }
     requires known { (k : ℕ) → k < high * wide → Known K.ops maxval (K.ops.decode (slice_index codes.now k)) }
     requires under { Under maxval (K.ops.samples pad) }
-    ensures end { result ≡ p + side * side * pixel_width K.ops maxval }
-    ensures out { out.new ≡ pasted out.old p (square_bytes K.ops maxval pad side wide high codes.now) }
+    ensures end { result ≡ side * side * pixel_width K.ops maxval }
+    ensures out { out.new ≡ over (square_bytes K.ops maxval pad side wide high codes.now) out.old }
 {
-    let at = put_rows(out, p, codes, wide, high, side, pad, maxval);
-    put_same(out, at, pad, (side - high) * side, maxval)
+    let end = put_rows(out, codes, wide, high, side, pad, maxval);
+    end + put_same(&mut out[end..], pad, (side - high) * side, maxval)
 }
 
 /// Writes the file of a square of the picture at the start of the buffer: tile (column, row) starts at (column × side, row × side), and is padded right and below as an embedding that names no ground. Answers how many bytes it has. The work buffer holds the codes of the part inside the picture.
@@ -93,9 +93,8 @@ pub fn write_tile<P: Picture>(
     picture.prepare(part, work)?;
     let head = put_header(out, P::Pixel::mark(), side, side, size.maxval);
     let pad = padding::<P::Pixel>(size.maxval);
-    let _end = put_square(
-        out,
-        head,
+    put_square(
+        &mut out[head..],
         work,
         part.width as usize,
         part.height as usize,

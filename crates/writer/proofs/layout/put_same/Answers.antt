@@ -1,19 +1,19 @@
-use Rattle.std.proofs.Common.{◌<◌, sym, zero-mul, arith}
+use Rattle.std.proofs.Common.{◌<◌, sym, refl, zero-mul, arith}
 use Rattle.writer.specs.File.{pixel_width, pixel_bytes}
-use Rattle.writer.proofs.Paste.{pasted-none}
-use Rattle.writer.proofs.Joins.{length-pixel_bytes, times_more, room, pasted_turn}
+use Rattle.writer.proofs.Joins.{length-pixel_bytes, times_more, room, over_turn}
+use Rattle.writer.proofs.Paste.{length-behind}
 use Rattle.writer.proofs.layout.put_same.Goals as goal
 
-pub put_pixel-at-requires : goal.put_pixel-at-requires
-put_pixel-at-requires g c =
+pub put_pixel-end-requires : goal.put_pixel-end-requires
+put_pixel-end-requires g c =
     let h : c.loop.counter < c.args.count = omega arith in
     record {
-      room = omega (arith, room c.loop.counter c.args.count (pixel_width g.K.Kind.ops c.args.maxval) h);
+      room = omega (arith, room c.loop.counter c.args.count (pixel_width g.K.Kind.ops c.args.maxval) h, length-behind c.loop.out c.loop.end);
       under = c.requires.under;
     }
 
 pub loop-init : goal.loop-init
-loop-init g c = (omega (arith, zero-mul (pixel_width g.K.Kind.ops c.args.maxval)), sym (pasted-none c.args.out.now c.args.p))
+loop-init g c = (sym (zero-mul (pixel_width g.K.Kind.ops c.args.maxval)), refl)
 
 pub loop-preserved : goal.loop-preserved
 loop-preserved g c =
@@ -24,6 +24,6 @@ loop-preserved g c =
     let h : k < c.args.count = omega arith in
     let r = room k c.args.count n h in (
       omega (arith, times_more k n),
-      pasted_turn (λ j. pixel_bytes o m c.args.pixel) n (λ j. length-pixel_bytes o g.met.K.Kind.deep m c.args.pixel) c.args.out.now c.loop.out c.put_pixel-at.new.out
-          c.args.p k c.loop.at c.loop.invariant.0 (omega arith) c.loop.invariant.1 c.put_pixel-at.ensures.out,
+      over_turn (λ j. pixel_bytes o m c.args.pixel) n (λ j. length-pixel_bytes o g.met.K.Kind.deep m c.args.pixel) c.args.out.now c.loop.out c.put_pixel-end.new.out
+          k c.loop.end c.loop.invariant.0 (omega arith) c.loop.invariant.1 c.put_pixel-end.ensures.out,
     )

@@ -16,6 +16,7 @@ use Rattle.std.proofs.lemmas.Result.{err_from_is_err_and}
 use Rattle.writer.proofs.Ends as ends
 use Rattle.writer.proofs.Codes as codes
 use Rattle.writer.proofs.Squares as squares
+use Rattle.writer.proofs.Paste.{length-behind}
 use Rattle.writer.proofs.tile.write_tile.Goals as goal
 
 -- what the answer of `visible` says
@@ -100,8 +101,8 @@ returns-in_err-prepare g c =
           c.prepare.new.self c.prepare.new.buffer part room a.result c.in_err-prepare.field-0.0 (tile_end o i col row side (length work) (length out)) (t.1 ∙ ap Err t.2) e c.in_err-prepare.ensures;
     }
 
-pub put_square-end-requires : goal.put_square-end-requires
-put_square-end-requires g c =
+pub put_square-requires : goal.put_square-requires
+put_square-requires g c =
     let o = g.P.Pixel.Kind.ops in
     let p = c.args.picture.now in
     let i = (g.P.Picture.model p).shown in
@@ -126,7 +127,7 @@ put_square-end-requires g c =
       small = squares.small o i col row side x is;
       room =
           let n : side * side * c.pixel_bytes.result ≡ side * side * pixel_width o z.maxval = ap (λ k. side * side * k) c.pixel_bytes.ensures.value in
-          omega (arith, c.if-out-bytes.false, c.put_header-head.ensures.end, c.header_bytes.ensures.value c.mark.result, c.put_header-head.auto.out);
+          omega (arith, c.if-out-bytes.false, c.put_header-head.ensures.end, c.header_bytes.ensures.value c.mark.result, c.put_header-head.auto.out, length-behind c.put_header-head.new.out c.put_header-head.result);
       known = λ k h.
           let D : List ℕ → Type 0 = λ t. Known o z.maxval (o.decode (get_or t k 0)) in
           let E : ℕ → Type 0 = λ m. Known o m (o.decode (get_or (put None (λ j. code_at o (place_of (cut o i col row side) j)) (cut_places o i col row side) work) k 0)) in
@@ -165,9 +166,9 @@ returns g c =
     let long : cut_places o i col row side ≤ length buffer = omega (arith, c.prepare.auto.buffer) in
     record {
       part = ends.done_wrote o g.P.Picture.model g.P.Picture.count (place_of (cut o i col row side)) (cut_places o i col row side) (file o (tile o i col row side)) p work out x
-          c.prepare.new.self buffer part room c.in_ok-prepare.ensures (tile_end o i col row side (length work) (length out)) (c.header_bytes.result + side * side * c.pixel_bytes.result) c.put_square-end.new.out e
+          c.prepare.new.self buffer part room c.in_ok-prepare.ensures (tile_end o i col row side (length work) (length out)) (c.header_bytes.result + side * side * c.pixel_bytes.result) _ e
           (bytes ∙ sym (squares.file_long o i col row side pad ground g.met.P.Pixel.Kind.decodes buffer clean shown long g.met.P.Pixel.Kind.deep))
-          (squares.file-written o i col row side pad ground g.met.P.Pixel.Kind.decodes buffer clean shown long g.met.P.Pixel.Kind.deep out c.put_header-head.new.out c.put_square-end.new.out
+          (squares.file-written o i col row side pad ground g.met.P.Pixel.Kind.decodes buffer clean shown long g.met.P.Pixel.Kind.deep out c.put_header-head.new.out c.put_square.new.out
           c.mark.result x.width x.height z.maxval c.put_header-head.result c.mark.ensures is.width is.height c.size-size.ensures.maxval
-          c.put_header-head.ensures.out c.put_header-head.ensures.end c.put_square-end.ensures.out fit);
+          c.put_header-head.ensures.out c.put_header-head.ensures.end c.put_square.ensures.out fit);
     }

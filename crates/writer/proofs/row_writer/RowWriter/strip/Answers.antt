@@ -68,8 +68,8 @@ returns-in_err-prepare g c =
     (sym c.if-not-serves.ensures) c.min-rows.ensures c.pixel_bytes.ensures.value c.if-rows-eq0.false c.if-work-places.false c.if-out-bytes.false
     c.prepare.new.self c.prepare.new.buffer _ c.in_err-prepare.field-0.0 c.from_residual.result c.in_err-prepare.ensures (t.1 ∙ ap Err t.2) refl refl refl refl
 
-pub put_codes-end-requires : goal.put_codes-end-requires
-put_codes-end-requires g c =
+pub put_codes-requires : goal.put_codes-requires
+put_codes-requires g c =
     let o = g.P.Pixel.Kind.ops in
     let w = c.args.self.now in
     let n = w.size.width * c.min-rows.result in
@@ -86,5 +86,5 @@ pub returns : goal.returns
 returns g c =
     strips.put_down g.P.Pixel.Kind.ops g.P.Picture.model g.P.Picture.count c.args.picture.now c.args.height c.args.self.now c.args.work.now c.args.out.now c.min-rows.result c.pixel_bytes.result
     (sym c.if-not-serves.ensures) c.min-rows.ensures c.pixel_bytes.ensures.value c.if-rows-eq0.false c.if-work-places.false c.if-out-bytes.false
-    c.prepare.new.self c.prepare.new.buffer _ c.in_ok-prepare.ensures refl refl refl refl g.met.P.Pixel.Kind.decodes g.met.P.Pixel.Kind.deep _ c.put_codes-end.new.out
-    refl refl refl c.put_codes-end.ensures.out
+    c.prepare.new.self c.prepare.new.buffer _ c.in_ok-prepare.ensures refl refl refl refl g.met.P.Pixel.Kind.decodes g.met.P.Pixel.Kind.deep _ c.put_codes.new.out
+    refl refl refl c.put_codes.ensures.out
