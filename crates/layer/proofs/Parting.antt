@@ -12,7 +12,7 @@ use Rattle.layer.specs.declared.aim.Carry.{Carry}
 use Rattle.layer.specs.declared.aim.Lens.{Lens}
 use Rattle.layer.specs.Aims.{Carried, Each, Ground, Mixed, Needless, Readable, Few, lens_pixel, walked}
 use Rattle.layer.specs.Laid.{Laid, Shows}
-use Rattle.layer.specs.Layers.{Stands}
+use Rattle.layer.specs.Standing.{Stands}
 use Rattle.layer.proofs.Asking.{reads_some}
 use Rattle.layer.proofs.Laying.{laid_as}
 use Rattle.layer.proofs.Mixing.{carried_place, mixed_pixel}

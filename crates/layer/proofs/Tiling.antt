@@ -9,7 +9,8 @@ use Rattle.picture.specs.Steps.{Formula, formula}
 use Rattle.layer.specs.declared.layer.Layer.{Layer}
 use Rattle.layer.specs.Aims.{Ground, Needless}
 use Rattle.layer.specs.Laid.{Laid, Part, Shows}
-use Rattle.layer.specs.Layers.{Kept, Stands}
+use Rattle.layer.specs.Layers.{Kept}
+use Rattle.layer.specs.Standing.{Stands}
 use Rattle.layer.proofs.Laying.{laid_above, laid_beside}
 
 laid_moved : (r : Rect) (x x' y y' w w' h h' : ℕ) (P : ℕ → ℕ → ℕ → Type 0) (t₀ t₁ : List ℕ) → x ≡ x' → y ≡ y' → w ≡ w' → h ≡ h' → Laid r x y w h P t₀ t₁ → Laid r x' y' w' h' P t₀ t₁
@@ -70,7 +71,7 @@ needless_part φ p q k n i j li lj =
     (subst (λ (x : ℕ). Ground (φ x (p.top + (q.top - p.top + j)))) ex (n (q.left - p.left + i) (q.top - p.top + j) (omega (arith, k.left, k.right)) (omega (arith, k.top, k.bottom))))
 
 -- and so it does of the layer that was kept
-pub needless_kept : {P K S : Type 0} (o : Ops K S) (model : P → Model K) (count : P → ℕ) (l m : Layer P) (p : Rect) → Kept o model count l m → Needless (formula l.step l.size.width l.size.height) p → Needless (formula m.step m.size.width m.size.height) p
+pub needless_kept : {P K S : Type 0} {g : _} {h : _} (o : Ops K S) (model : P → Model K) (count : P → ℕ) (l m : Layer P K S g h) (p : Rect) → Kept o model count l m → Needless (formula l.step l.size.width l.size.height) p → Needless (formula m.step m.size.width m.size.height) p
 needless_kept o model count l m p k n =
     subst (λ (z : Size). Needless (formula m.step z.width z.height) p) k.size (subst (λ (s : Step). Needless (formula s l.size.width l.size.height) p) k.step n)
 

@@ -1,25 +1,16 @@
 -- What a layer means, and what making one answers.
-use Rattle.std.specs.Prelude.{◌≡◌, ℕ, zero, suc, true, cond, [], Ok, Err, Result}
+use Rattle.std.specs.Prelude.{◌≡◌, ℕ, zero, suc, cond, [], Ok, Err, Result}
 use Rattle.pixel.specs.Ops.{Ops}
 use Rattle.picture.specs.declared.fault.Fault.{Fault}
 use Rattle.picture.specs.declared.fault.Refused.{Refused}
-use Rattle.picture.specs.declared.size.Size.{Size}
 use Rattle.picture.specs.declared.step.Step.{Step}
 use Rattle.picture.specs.Compose.{layered}
-use Rattle.picture.specs.Images.{Image, Model}
+use Rattle.picture.specs.Images.{Model}
 use Rattle.picture.specs.Places.{Place, pixel, hole}
 use Rattle.picture.specs.Prepare.{up}
 use Rattle.picture.specs.Refusals.{Outcome, done, refused, told}
 use Rattle.picture.specs.Steps.{allowed, fitting}
 use Rattle.layer.specs.declared.layer.Layer.{Layer}
-
--- the size is that of the picture below, and the step can stand over it
-pub record Stands {K : Type 0} (b : Image K) (s : Step) (z : Size) : Type 0 where
-  pub width : z.width ≡ b.width
-  pub height : z.height ≡ b.height
-  pub maxval : z.maxval ≡ b.maxval
-  pub allowed : allowed s ≡ true
-  pub fits : fitting s z.width z.height ≡ true
 
 -- 5 where a number of the step is outside its limits, 7 where it does not fit
 abbrev pub standing : Step → ℕ → ℕ → Outcome
@@ -35,22 +26,17 @@ abbrev pub located : {K S : Type 0} → Ops K S → Place K → Result ℕ Fault
 located o (pixel p) = Ok (o.code p)
 located o (hole f) = Err f
 
-module _ {P K S : Type 0} (o : Ops K S) (model : P → Model K) where
-  abbrev pub model_of : Layer P → Model K
+module _ {P K S : Type 0} {g : _} {h : _} (o : Ops K S) (model : P → Model K) where
+  abbrev pub model_of : Layer P K S g h → Model K
   model_of l = layered o l.step (model l.below)
 
-  module _ (sound : P → Type 0) where
-    abbrev pub Sound : Layer P → Type 0
-    Sound l = sound l.below × Stands (model l.below).shown l.step l.size
-
-    -- the step over the picture as it was, which no prepare has been made of; or the picture back, and why
-    abbrev pub Made : P → Step → Result (Layer P) (Refused P) → Type 0
-    Made p s (Ok l) =
-        (l.below ≡ p) × (model_of l ≡ layered o s (model p)) × (l.count ≡ 0) × Sound l × (standing s (model p).shown.width (model p).shown.height ≡ done)
-    Made p s (Err e) = (e.back ≡ p) × (standing s (model p).shown.width (model p).shown.height ≡ told e.refusal)
+  -- the step over the picture as it was, which no prepare has been made of; or the picture back, and why
+  abbrev pub Made : P → Step → Result (Layer P K S g h) (Refused P) → Type 0
+  Made p s (Ok l) = (l.below ≡ p) × (model_of l ≡ layered o s (model p)) × (l.count ≡ 0) × (standing s (model p).shown.width (model p).shown.height ≡ done)
+  Made p s (Err e) = (e.back ≡ p) × (standing s (model p).shown.width (model p).shown.height ≡ told e.refusal)
 
   -- the second differs from the first only in what asking below may change
-  pub record Kept (counted : P → ℕ) (l m : Layer P) : Type 0 where
+  pub record Kept (counted : P → ℕ) (l m : Layer P K S g h) : Type 0 where
     pub shows : model l.below ≡ model m.below
     pub step : l.step ≡ m.step
     pub size : l.size ≡ m.size

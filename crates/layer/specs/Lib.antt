@@ -3,6 +3,7 @@ pub mod Spreads
 pub mod Aims
 pub mod Laid
 pub mod Cuts
+pub mod Standing
 pub mod Layers
 pub mod Asked
 pub mod Laws

@@ -1,14 +1,18 @@
-use picture::{Size, Step};
+ghost use Rattle.layer.specs.Standing.{Stands};
+
+use picture::{Picture, Size, Step};
 
 /// How many codes of the picture below are held at a time: as many as a sum takes.
 pub(crate) const ROOM: usize = 4096;
 
 /// A step laid over a picture.
 #[derive(Drop)]
-pub struct Layer<P> {
+pub struct Layer<P: Picture> {
     pub(crate) below: P,
     pub(crate) step: Step,
     pub(crate) size: Size,
     pub(crate) count: u64,
     pub(crate) scratch: [u64; ROOM],
+    // the size is that of the picture below, and the step can stand over it
+    ghost stands: { Stands (P.model below).shown step size },
 }

@@ -4,7 +4,7 @@ ghost use Rattle.picture.specs.Prepare.{Shown, area, coded, nth};
 ghost use Rattle.picture.specs.Steps.{Formula, formula};
 ghost use Rattle.layer.specs.Aims.{Few, Inside, Mixed, Needless};
 ghost use Rattle.layer.specs.Laid.{Laid, Part, Shows};
-ghost use Rattle.layer.specs.Layers.{Kept, Sound, model_of, raised};
+ghost use Rattle.layer.specs.Layers.{Kept, model_of, raised};
 
 use crate::aim::{Aim, Lens};
 use crate::aims::aim;

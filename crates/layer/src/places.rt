@@ -1,5 +1,5 @@
 ghost use Rattle.std.specs.Prelude.{◌≡◌, ◌<◌};
-ghost use Rattle.layer.specs.Layers.{Kept, Sound, located, model_of};
+ghost use Rattle.layer.specs.Layers.{Kept, located, model_of};
 
 use crate::aim::Aim;
 use crate::aims::{aim, rect};

@@ -2,7 +2,7 @@ ghost use Rattle.picture.specs.Prepare.{Prepared};
 ghost use Rattle.picture.specs.Refusals.{outcome};
 ghost use Rattle.picture.specs.Steps.{formula};
 ghost use Rattle.layer.specs.Asked.{Asked};
-ghost use Rattle.layer.specs.Layers.{Kept, Sound, model_of};
+ghost use Rattle.layer.specs.Layers.{Kept, model_of};
 ghost use Rattle.std.specs.Prelude.{refl};
 ghost use Rattle.std.proofs.Common.{ap};
 ghost use Rattle.layer.specs.Placing.{kept-none, kept_follows, kept_shows, stood_fits};
@@ -17,8 +17,6 @@ impl<P: Picture> Rows for Layer<P> {
     type Pixel = P::Pixel;
 
     ghost view = { λ l. (model_of P.Pixel.ops P.model l).shown };
-
-    ghost ready = { Sound P.Pixel.ops P.model };
 
     ghost same = { Kept P.Pixel.ops P.model P.count };
 
@@ -42,7 +40,7 @@ impl<P: Picture> Rows for Layer<P> {
 impl<P: Picture> Layer<P> {
     /// A prepare that also says how often it asks the picture below.
     pub fn prepare_counted(&mut self, rect: Rect, buffer: &mut [u64]) -> Result<(), Refusal>
-        ensures prepared { Prepared P.Pixel.ops (model_of P.Pixel.ops P.model) (λ l. l.count) (Sound P.Pixel.ops P.model) self.old rect buffer.old result self.new buffer.new }
+        ensures prepared { Prepared P.Pixel.ops (model_of P.Pixel.ops P.model) (λ l. l.count) self.old rect buffer.old result self.new buffer.new }
         ensures asked { Asked (formula self.old.step (P.model self.old.below).shown.width (P.model self.old.below).shown.height) rect (outcome result) (P.count self.old.below) (P.count self.new.below) }
     {
         self.count = self.count.saturating_add(1);
@@ -68,20 +66,18 @@ impl<P: Picture> Picture for Layer<P> {
 
     ghost count = { λ l. l.count };
 
-    ghost sound = { Sound P.Pixel.ops P.model };
-
     ghost bare = { λ l. P.bare l.below };
 
-    ghost sized = { λ l h.
+    ghost sized = { λ l.
         let b = (P.model l.below).shown in
-        sized_step P.Pixel.ops l.step b (P.sized l.below h.0) h.1.allowed (stood_fits b l.step l.size h.1) };
+        sized_step P.Pixel.ops l.step b (P.sized l.below) l.stands.allowed (stood_fits b l.step l.size l.stands) };
 
-    ghost bounded = { λ l h.
+    ghost bounded = { λ l.
         let b = (P.model l.below).shown in
-        bounded_step P.Pixel.ops l.step b (P.sized l.below h.0) (P.bounded l.below h.0)
-        P.Pixel.blacks P.Pixel.whites P.Pixel.limits h.1.allowed (stood_fits b l.step l.size h.1) };
+        bounded_step P.Pixel.ops l.step b (P.sized l.below) (P.bounded l.below)
+        P.Pixel.blacks P.Pixel.whites P.Pixel.limits l.stands.allowed (stood_fits b l.step l.size l.stands) };
 
-    ghost composed = { λ l h. composed-step P.Pixel.ops l.step (P.model l.below) (P.composed l.below h.0) };
+    ghost composed = { λ l. composed-step P.Pixel.ops l.step (P.model l.below) (P.composed l.below) };
 
     fn size(&self) -> Size {
         Size {

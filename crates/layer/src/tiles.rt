@@ -3,7 +3,7 @@ ghost use Rattle.picture.specs.Prepare.{area, coded};
 ghost use Rattle.picture.specs.Steps.{formula};
 ghost use Rattle.layer.specs.Aims.{Needless};
 ghost use Rattle.layer.specs.Laid.{Laid, Part, Shows};
-ghost use Rattle.layer.specs.Layers.{Kept, Sound, model_of};
+ghost use Rattle.layer.specs.Layers.{Kept, model_of};
 
 use crate::aims::rect;
 use crate::cut::Cut;

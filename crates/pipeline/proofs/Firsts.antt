@@ -13,15 +13,15 @@ use Rattle.writer.proofs.Firsts.{answered}
 use Rattle.writer.proofs.Logs.{logged}
 use Rattle.pipeline.specs.Laws.{Answers}
 
-module _ {P K S : Type 0} (o : Ops K S) (model : P → Model K) (count : P → ℕ) (sound bare : P → Type 0) (law : (p : P) → sound p → Composed o (model p)) where
+module _ {P K S : Type 0} (o : Ops K S) (model : P → Model K) (count : P → ℕ) (bare : P → Type 0) (law : (p : P) → Composed o (model p)) where
   -- behind any log a picture shows what its source and steps make
-  pub shows : (new p : P) → sound new → Log o model count sound bare new p → (model p).shown ≡ whole o model count sound bare new
-  shows new p h l = ap (λ (m : Model K). m.shown) (logged o model count sound bare new p l) ∙ law new h
+  pub shows : (new p : P) → Log o model count bare new p → (model p).shown ≡ whole o model count bare new
+  shows new p l = ap (λ (m : Model K). m.shown) (logged o model count bare new p l) ∙ law new
 
-  pub answers : (p q : P) (r : Rect) (before after : List ℕ) (a : Result Unit Refusal) → Prepared o model count sound p r before a q after → Answers o model count sound bare p r before a after
-  answers p q r before after a d new h l f =
+  pub answers : (p q : P) (r : Rect) (before after : List ℕ) (a : Result Unit Refusal) → Prepared o model count p r before a q after → Answers o model count bare p r before a after
+  answers p q r before after a d new l f =
       let i = (model p).shown in
-      let is : i ≡ whole o model count sound bare new = shows new p h l in
+      let is : i ≡ whole o model count bare new = shows new p l in
       let x : r.left + r.width ≤ i.width = let e = ap (λ (z : Image K). z.width) is in let b = f.across in omega arith in
       let y : r.top + r.height ≤ i.height = let e = ap (λ (z : Image K). z.height) is in let b = f.down in omega arith in
       let D : Image K → Type 0 = λ z. Answered o z r before a after in

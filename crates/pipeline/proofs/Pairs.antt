@@ -99,13 +99,13 @@ module _ {K S : Type 0} (o : Ops K S) where
       entries = λ f. ap (take (area r)) v ∙ same_entries x y e f ∙ sym (ap (take (area r)) w);
     }
 
-module _ {P Q K S : Type 0} (o : Ops K S) (model : P → Model K) (count : P → ℕ) (sound bare : P → Type 0) (model' : Q → Model K) (count' : Q → ℕ) (sound' bare' : Q → Type 0)
-    (law : (p : P) → sound p → Composed o (model p)) (law' : (q : Q) → sound' q → Composed o (model' q)) where
+module _ {P Q K S : Type 0} (o : Ops K S) (model : P → Model K) (count : P → ℕ) (bare : P → Type 0) (model' : Q → Model K) (count' : Q → ℕ) (bare' : Q → Type 0)
+    (law : (p : P) → Composed o (model p)) (law' : (q : Q) → Composed o (model' q)) where
   pub agree : (p p' : P) (q q' : Q) (r : Rect) (a b a' b' : List ℕ) (s t : Result Unit Refusal)
-      → Prepared o model count sound p r a s p' a' → Prepared o model' count' sound' q r b t q' b' → Agree o model count sound bare model' count' sound' bare' p q r a b s t a' b'
-  agree p p' q q' r a b a' b' s t d e x y h k l m steps alike long =
-      let i : (model p).shown ≡ whole o model count sound bare x = shows o model count sound bare law x p h l in
-      let j : (model' q).shown ≡ composed o (model x).steps (model' y).source = shows o model' count' sound' bare' law' y q k m ∙ ap (λ z. composed o z (model' y).source) (sym steps) in
+      → Prepared o model count p r a s p' a' → Prepared o model' count' q r b t q' b' → Agree o model count bare model' count' bare' p q r a b s t a' b'
+  agree p p' q q' r a b a' b' s t d e x y l m steps alike long =
+      let i : (model p).shown ≡ whole o model count bare x = shows o model count bare law x p l in
+      let j : (model' q).shown ≡ composed o (model x).steps (model' y).source = shows o model' count' bare' law' y q m ∙ ap (λ z. composed o z (model' y).source) (sym steps) in
       same o (model x).steps r (model x).source (model' y).source alike a b a' b' s t long
       (d.answers ∙ ap (λ z. answer z r (length a)) i) (e.answers ∙ ap (λ z. answer z r (length b)) j)
       (d.fills ∙ ap (λ z. filled o z r a) i) (e.fills ∙ ap (λ z. filled o z r b) j)

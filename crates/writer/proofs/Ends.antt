@@ -1,5 +1,5 @@
 -- How a call ends that prepares one part of a picture.
-use Rattle.std.proofs.Common.{◌≡◌, ℕ, ◌+◌, ◌≤◌, List, [], length, Some, None, Ok, Err, Option, sym, refl, ap, ◌∙◌, arith}
+use Rattle.std.proofs.Common.{◌≡◌, ℕ, ◌+◌, ◌≤◌, List, [], length, Some, None, Ok, Err, Option, Result, sym, refl, ap, ◌∙◌, arith}
 use Rattle.pixel.specs.Ops.{Ops}
 use Rattle.picture.specs.declared.fault.Fault.{Fault}
 use Rattle.picture.specs.declared.fault.Refusal.{Refusal}
@@ -10,7 +10,7 @@ use Rattle.picture.specs.Images.{Image, Model}
 use Rattle.picture.specs.Prepare as prepare
 use Rattle.picture.specs.Prepare.{up, area, nth, answer, put, code_at, filled, Prepared}
 use Rattle.picture.proofs.Serving.{answer_is, filled_is}
-use Rattle.writer.specs.Calls.{End, early, holed, wrote, ending, end_outcome, end_amount, end_count, end_codes, end_bytes, over, Wrote}
+use Rattle.writer.specs.Calls.{End, early, holed, wrote, ending, outcome_of, amount, end_outcome, end_amount, end_count, end_codes, end_bytes, over, Wrote}
 
 -- with no hole there is no fault
 pub no_fault : (x : Option Fault) → done ≡ prepare.holed x → x ≡ None
@@ -35,17 +35,17 @@ pub record Part {K : Type 0} (i : Image K) (r : Rect) (place : ℕ → Place K) 
   pub many : area r ≡ n
   pub same : nth i r ≡ place
 
-module _ {P K S : Type 0} (o : Ops K S) (model : P → Model K) (count : P → ℕ) (sound : P → Type 0) where
-  pub early_wrote : (place : ℕ → Place K) (m : ℕ) (bytes : List ℕ) (p : P) (work out : List ℕ) (e : Refusal) (end : End) (n : ℕ)
-      → end ≡ early n → told e ≡ refused n [] → sound p → Wrote o model count sound end place m bytes p work out (Err e) p work out
-  early_wrote place m bytes p work out e end n q t s = record {
-    answers = t ∙ ap end_outcome (sym q);
-    amounts = ap (λ x. end_amount x (length bytes)) (sym q);
+module _ {P K S : Type 0} (o : Ops K S) (model : P → Model K) (count : P → ℕ) where
+  -- the answer is a refusal, and nothing was done
+  pub early_wrote : (place : ℕ → Place K) (m : ℕ) (bytes : List ℕ) (p : P) (work out : List ℕ) (a : Result ℕ Refusal) (e : Refusal) (end : End) (n : ℕ)
+      → a ≡ Err e → end ≡ early n → told e ≡ refused n [] → Wrote o model count end place m bytes p work out a p work out
+  early_wrote place m bytes p work out a e end n r q t = record {
+    answers = ap outcome_of r ∙ t ∙ ap end_outcome (sym q);
+    amounts = ap amount r ∙ ap (λ x. end_amount x (length bytes)) (sym q);
     fills = ap (λ x. end_codes x (λ k. code_at o (place k)) m work) (sym q);
     writes = ap (λ x. end_bytes x bytes out) (sym q);
     counts = ap (λ x. end_count x (count p)) (sym q);
     keeps = refl;
-    stays = s;
   }
 
   module _ (place : ℕ → Place K) (m : ℕ) (bytes : List ℕ) (p : P) (work out : List ℕ) (r : Rect) (q : P) (work' : List ℕ) (part : Part (model p).shown r place m) (room : m ≤ length work) where
@@ -62,26 +62,25 @@ module _ {P K S : Type 0} (o : Ops K S) (model : P → Model K) (count : P → �
         ∙ ap (λ f. put (first_fault f (area r)) (λ k. code_at o (f k)) (area r) work) part.same
         ∙ ap (λ n. put (first_fault place n) (λ k. code_at o (place k)) n work) part.many
 
-    holed_is : (x : Option Fault) (e : Refusal) (end : End) → end ≡ ending None x → told e ≡ prepare.holed x → work' ≡ put x (λ k. code_at o (place k)) m work
-        → count q ≡ up (count p) → model q ≡ model p → sound q → Wrote o model count sound end place m bytes p work out (Err e) q work' out
-    holed_is None e end h t w c k s = let z : ◌≡◌ {A = ℕ} 0 1 = cc in absurd (omega arith)
-    holed_is (Some f) e end h t w c k s = record {
-      answers = t ∙ ap end_outcome (sym h);
-      amounts = ap (λ x. end_amount x (length bytes)) (sym h);
+    holed_is : (x : Option Fault) (a : Result ℕ Refusal) (e : Refusal) (end : End) → a ≡ Err e → end ≡ ending None x → told e ≡ prepare.holed x → work' ≡ put x (λ k. code_at o (place k)) m work
+        → count q ≡ up (count p) → model q ≡ model p → Wrote o model count end place m bytes p work out a q work' out
+    holed_is None a e end r h t w c k = let z : ◌≡◌ {A = ℕ} 0 1 = cc in absurd (omega arith)
+    holed_is (Some f) a e end r h t w c k = record {
+      answers = ap outcome_of r ∙ t ∙ ap end_outcome (sym h);
+      amounts = ap amount r ∙ ap (λ x. end_amount x (length bytes)) (sym h);
       fills = w ∙ ap (λ x. end_codes x (λ j. code_at o (place j)) m work) (sym h);
       writes = ap (λ x. end_bytes x bytes out) (sym h);
       counts = c ∙ ap (λ x. end_count x (count p)) (sym h);
       keeps = k;
-      stays = s;
     }
 
     -- the prepare of the part told a hole
-    pub holed-wrote : (e : Refusal) (end : End) → end ≡ ending None (first_fault place m) → Prepared o model count sound p r work (Err e) q work'
-        → Wrote o model count sound end place m bytes p work out (Err e) q work' out
-    holed-wrote e end h d = holed_is (first_fault place m) e end h (d.answers ∙ part-answer) (d.fills ∙ part_filled) d.counts d.keeps d.stays
+    pub holed-wrote : (a : Result ℕ Refusal) (e : Refusal) (end : End) → a ≡ Err e → end ≡ ending None (first_fault place m) → Prepared o model count p r work (Err e) q work'
+        → Wrote o model count end place m bytes p work out a q work' out
+    holed-wrote a e end t h d = holed_is (first_fault place m) a e end t h (d.answers ∙ part-answer) (d.fills ∙ part_filled) d.counts d.keeps
 
     -- the prepare of the part was done
-    module _ (d : Prepared o model count sound p r work (Ok tt) q work') where
+    module _ (d : Prepared o model count p r work (Ok tt) q work') where
       pub clean : first_fault place m ≡ None
       clean = no_fault (first_fault place m) (d.answers ∙ part-answer)
 
@@ -89,7 +88,7 @@ module _ {P K S : Type 0} (o : Ops K S) (model : P → Model K) (count : P → �
       codes_are = d.fills ∙ part_filled ∙ ap (λ x. put x (λ k. code_at o (place k)) m work) clean
 
       pub done_wrote : (end : End) (n : ℕ) (out' : List ℕ) → end ≡ ending None (first_fault place m) → n ≡ length bytes → out' ≡ over bytes out
-          → Wrote o model count sound end place m bytes p work out (Ok n) q work' out'
+          → Wrote o model count end place m bytes p work out (Ok n) q work' out'
       done_wrote end n out' h l w =
           let t : end ≡ wrote = h ∙ ap (ending None) clean in
           record {
@@ -99,5 +98,4 @@ module _ {P K S : Type 0} (o : Ops K S) (model : P → Model K) (count : P → �
             writes = w ∙ ap (λ x. end_bytes x bytes out) (sym t);
             counts = d.counts ∙ ap (λ x. end_count x (count p)) (sym t);
             keeps = d.keeps;
-            stays = d.stays;
           }

@@ -144,11 +144,11 @@ module _ {K S : Type 0} (o : Ops K S) (i : Image K) (r : Rect) (before : List �
         stays = ap (drop (area r)) w ∙ drop_at (replicate (area r) 0) (drop (area r) before) (area r) (length-replicate (area r) 0);
       }
 
-module _ {P K S : Type 0} (o : Ops K S) (model : P → Model K) (count : P → ℕ) (sound bare : P → Type 0) where
-  pub answers : ((p : P) → sound p → Composed o (model p)) → Answers o model count sound bare
-  answers law p q h l r before after a q' d across down room =
+module _ {P K S : Type 0} (o : Ops K S) (model : P → Model K) (count : P → ℕ) (bare : P → Type 0) where
+  pub answers : ((p : P) → Composed o (model p)) → Answers o model count bare
+  answers law p q l r before after a q' d across down room =
       let i = (model q).shown in
-      let is : i ≡ whole o model count sound bare p = ap (λ (m : Model K). m.shown) (logged o model count sound bare p q l) ∙ law p h in
+      let is : i ≡ whole o model count bare p = ap (λ (m : Model K). m.shown) (logged o model count bare p q l) ∙ law p in
       let x : r.left + r.width ≤ i.width = let e = ap (λ (z : Image K). z.width) is in omega arith in
       let y : r.top + r.height ≤ i.height = let e = ap (λ (z : Image K). z.height) is in omega arith in
       let D : Image K → Type 0 = λ z. Answered o z r before a after in

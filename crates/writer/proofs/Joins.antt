@@ -1,13 +1,15 @@
 -- Parts of one length, written one behind another.
 use Rattle.std.proofs.Common.{◌≡◌, ℕ, zero, suc, ◌+◌, ◌-◌, ◌*◌, ◌/◌, ◌%◌, ◌<◌, ◌≤◌, true, false, cond, ltb, List, [], ◌∷◌, ◌++◌, map, length, get_or, take, drop, Some, None, Option, sym, refl, ap, ◌∙◌, append_assoc, add-zero, mul_assoc, add-mul, one-mul, zero-add, zero-mul, arith, length-append, length-take}
+use borrow.Rule.Slice.PartMut.{put_mid}
 use Rattle.std.specs.List.{range_with_len, flat_map}
 use Rattle.std.proofs.lemmas.List.{append-nil, length-replicate}
 use Rattle.std.proofs.lemmas.List.FromFn.{fill_by_all, length-range_with_len}
 use Rattle.std.proofs.lemmas.Nat.{mul-le}
 use Rattle.pixel.specs.Ops.{Ops}
 use Rattle.writer.specs.File.{sample_bytes, sample_width, pixel_bytes, pixel_width}
-use Rattle.writer.specs.Layout.{pasted, repeated, decoded_bytes, code_bytes, row_bytes, rows_bytes}
-use Rattle.writer.proofs.Paste.{pasted-pasted}
+use Rattle.writer.specs.Layout.{repeated, decoded_bytes, code_bytes, row_bytes, rows_bytes}
+use Rattle.writer.specs.Calls.{over}
+use Rattle.writer.proofs.Paste.{over_next}
 
 pub times_more : (i n : ℕ) → (i + 1) * n ≡ i * n + n
 times_more i n = add-mul i 1 n ∙ ap (λ k. i * n + k) (one-mul n)
@@ -78,15 +80,14 @@ pub short : (n a : ℕ) (xs : List ℕ) → length (take n (drop a xs)) ≤ n
 short n a xs = simp length-take (omega arith)
 
 -- one turn of a loop that writes the part f k, of n bytes, for k from 0 on
-pub pasted_turn :
-    (f : ℕ → List ℕ) (n : ℕ) → ((k : ℕ) → length (f k) ≡ n) → (s s1 s2 : List ℕ) (p k q : ℕ) → q ≡ p + k * n → q + n ≤ length s
-    → s1 ≡ pasted s p (flat_map f (range_with_len 0 k)) → s2 ≡ pasted s1 q (f k) → s2 ≡ pasted s p (flat_map f (range_with_len 0 (k + 1)))
-pasted_turn f n len s s1 s2 p k q e fit e1 e2 =
+pub over_turn :
+    (f : ℕ → List ℕ) (n : ℕ) → ((k : ℕ) → length (f k) ≡ n) → (s s1 part : List ℕ) (k q : ℕ) → q ≡ k * n → q + n ≤ length s
+    → s1 ≡ over (flat_map f (range_with_len 0 k)) s → part ≡ over (f k) (take (length s1 - q) (drop q s1)) → put_mid q (length s1 - q) s1 part ≡ over (flat_map f (range_with_len 0 (k + 1))) s
+over_turn f n len s s1 part k q e fit e1 e2 =
     let l = length_parts f n 0 k len in
     let one : flat_map f (range_with_len (0 + k) 1) ≡ f k = ap (λ j. flat_map f (range_with_len j 1)) (zero-add k) ∙ append-nil (f k) in
-    e2 ∙ ap (λ t. pasted t q (f k)) e1
-    ∙ pasted-pasted s p (flat_map f (range_with_len 0 k)) (f k) q (omega arith) (omega (arith, len k))
-    ∙ ap (pasted s p) (sym (joined_parts f 0 k 1 ∙ ap (λ t. flat_map f (range_with_len 0 k) ++ t) one))
+    over_next s s1 part (flat_map f (range_with_len 0 k)) (f k) q e1 (omega arith) (omega (arith, len k)) e2
+    ∙ ap (λ t. over t s) (sym (joined_parts f 0 k 1 ∙ ap (λ t. flat_map f (range_with_len 0 k) ++ t) one))
 
 pub length-sample_bytes : (m s : ℕ) → length (sample_bytes m s) ≡ sample_width m
 length-sample_bytes m s = elim (ltb m 256) as (λ b. length (cond b (s ∷ []) (s / 256 ∷ (s % 256 ∷ []))) ≡ cond b 1 2) [ true ↦ refl | false ↦ refl ]

@@ -9,3 +9,4 @@ pub mod Logs
 pub mod Squares
 pub mod Firsts
 pub mod Wholes
+pub mod Strips

@@ -38,15 +38,15 @@ module _ {K S : Type 0} (o : Ops K S) where
       ∙ reading_join i 0 (i.width * v.next) (i.width * rows_of v s)
       ∙ ap (reading o i 0) (sym (mul-add i.width v.next (rows_of v s)) ∙ ap (λ k. i.width * k) (sym x))
 
-module _ {P K S : Type 0} (o : Ops K S) (model : P → Model K) (count : P → ℕ) (sound bare : P → Type 0) where
-  called : (p q : P) → Call o model count sound bare p q → model q ≡ model p
+module _ {P K S : Type 0} (o : Ops K S) (model : P → Model K) (count : P → ℕ) (bare : P → Type 0) where
+  called : (p q : P) → Call o model count bare p q → model q ≡ model p
   called p q (prepared x) = x.keeps
   called p q (forgot x) = x.keeps
   called p q (stripped x) = x.part.keeps
   called p q (tiled x) = x.part.keeps
   called p q (filed x) = x.keeps
 
-  pub logged : (p q : P) → Log o model count sound bare p q → model q ≡ model p
+  pub logged : (p q : P) → Log o model count bare p q → model q ≡ model p
   logged p q log.start = refl
   logged p q (log.next {q = m} l c) = called m q c ∙ logged p m l
 
@@ -58,7 +58,7 @@ module _ {P K S : Type 0} (o : Ops K S) (model : P → Model K) (count : P → �
     pub bytes : got ≡ reading o m.shown 0 (m.shown.width * v.next)
 
   strip_far : (m : Model K) (q r : P) (v v' : RowWriter) (bytes : List ℕ) (s : ℕ) (work work' out out' : List ℕ) (a : Result ℕ Refusal)
-      → Far m q v bytes → Strip o model count sound q s v work out a r v' work' out' → Far m r v' (bytes ++ take (amount a) out')
+      → Far m q v bytes → Strip o model count q s v work out a r v' work' out' → Far m r v' (bytes ++ take (amount a) out')
   strip_far m q r v v' bytes s work work' out out' a f x =
       let i = (model q).shown in
       let k : (model q).shown ≡ m.shown = ap (λ (z : Model K). z.shown) f.kept in
@@ -72,7 +72,7 @@ module _ {P K S : Type 0} (o : Ops K S) (model : P → Model K) (count : P → �
             (f.width ∙ ap (λ (z : Image K). z.width) (sym k)) (subst D (sym k) f.bytes));
       }
 
-  far : (m : Model K) (p : P) (w : RowWriter) → Far m p w [] → (q : P) (v : RowWriter) (bytes : List ℕ) → Strips o model count sound bare p w q v bytes → Far m q v bytes
+  far : (m : Model K) (p : P) (w : RowWriter) → Far m p w [] → (q : P) (v : RowWriter) (bytes : List ℕ) → Strips o model count bare p w q v bytes → Far m q v bytes
   far m p w f q v bytes log.Strips.start = f
   far m p w f q v bytes (log.other {q = n} l c) =
       let h = far m p w f n v bytes l in
@@ -81,9 +81,9 @@ module _ {P K S : Type 0} (o : Ops K S) (model : P → Model K) (count : P → �
       strip_far m n q u v bs s work work' out out' a (far m p w f n u bs l) x
 
   -- the header and the strips joined are the file
-  pub joined-file : ((p : P) → sound p → Composed o (model p)) → (p : P) (out : List ℕ) (n : ℕ) (w : RowWriter) (out' : List ℕ) → sound p → Opened o (model p).shown out n w out'
-      → Joined o model count sound bare p (take n out') w
-  joined-file law p out n w out' h b q v bytes l done =
+  pub joined-file : ((p : P) → Composed o (model p)) → (p : P) (out : List ℕ) (n : ℕ) (w : RowWriter) (out' : List ℕ) → Opened o (model p).shown out n w out'
+      → Joined o model count bare p (take n out') w
+  joined-file law p out n w out' b q v bytes l done =
       let i = (model p).shown in
       let first : Far (model p) p w [] = record {
         kept = refl;
@@ -94,4 +94,4 @@ module _ {P K S : Type 0} (o : Ops K S) (model : P → Model K) (count : P → �
       let f = far (model p) p w first q v bytes l in
       ap (λ t. t ++ bytes) (ap (take n) b.writes ∙ take-over (header_of o i) out n b.amounts)
       ∙ ap (λ t. header_of o i ++ t) (f.bytes ∙ ap (λ k. reading o i 0 (i.width * k)) (done ∙ f.height))
-      ∙ ap (file o) (law p h)
+      ∙ ap (file o) (law p)

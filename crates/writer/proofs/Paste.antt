@@ -1,6 +1,7 @@
 -- One write after another.
-use Rattle.std.proofs.Common.{◌≡◌, ℕ, suc, ◌+◌, ◌<◌, ◌≤◌, List, [], ◌∷◌, ◌++◌, length, take, drop, set, sym, ap, ◌∙◌, append_assoc, add-zero, zero-add, arith, length-append, length-drop, length-take}
-use Rattle.std.proofs.lemmas.List.{take_at, drop_at, drop-drop, take-append-drop, length-take-le, set_split}
+use Rattle.std.proofs.Common.{◌≡◌, ℕ, suc, ◌+◌, ◌-◌, ◌<◌, ◌≤◌, List, [], ◌∷◌, ◌++◌, length, take, drop, set, sym, ap, ◌∙◌, append_assoc, add-zero, zero-add, arith, length-append, length-drop, length-take}
+use borrow.Rule.Slice.PartMut.{put_mid, post_of}
+use Rattle.std.proofs.lemmas.List.{take_at, drop_at, drop-drop, take-append-drop, append-nil, drop_all, take_all, length-take-le, set_split}
 use Rattle.writer.specs.Layout.{pasted}
 use Rattle.writer.specs.Calls.{over}
 
@@ -47,3 +48,39 @@ pasted_front s bs = ap (λ n. bs ++ drop n s) (zero-add (length bs))
 
 pub take-over : (bs s : List ℕ) (n : ℕ) → n ≡ length bs → take n (over bs s) ≡ bs
 take-over bs s n e = take_at bs (drop (length bs) s) n (sym e)
+
+-- a write at the start of what lies behind a place
+pub put-behind : (out : List ℕ) (a : ℕ) (bytes part : List ℕ) → a ≤ length out → part ≡ over bytes (take (length out - a) (drop a out)) → put_mid a (length out - a) out part ≡ pasted out a bytes
+unfolding pasted
+put-behind out a bytes part h e =
+    let l = length-drop a out in
+    let t : take (length out - a) (drop a out) ≡ drop a out = take_all (length out - a) (drop a out) (omega arith) in
+    let z : a + (length out - a) ≡ length out = omega arith in
+    ap (λ x. take a out ++ (x ++ post_of a (length out - a) out)) (e ∙ ap (over bytes) t ∙ ap (λ x. bytes ++ x) (drop-drop (length bytes) a out))
+    ∙ ap (λ x. take a out ++ ((bytes ++ drop (a + length bytes) out) ++ x)) (drop-drop (length out - a) a out ∙ ap (λ n. drop n out) z ∙ drop_all (length out) out (omega arith))
+    ∙ ap (λ x. take a out ++ x) (append-nil (bytes ++ drop (a + length bytes) out))
+
+-- one byte at the start
+pub over_one : (s : List ℕ) (x : ℕ) → 0 < length s → set s 0 x ≡ over (x ∷ []) s
+over_one s x h = pasted_one s 0 x h ∙ pasted_front s (x ∷ [])
+
+-- one byte more
+pub over_push : (s s1 : List ℕ) (a : List ℕ) (q x : ℕ) → s1 ≡ over a s → length a ≡ q → q < length s → set s1 q x ≡ over (a ++ (x ∷ [])) s
+over_push s s1 a q x e l h = pasted_push s s1 0 a q x (e ∙ sym (pasted_front s a)) (omega arith) h ∙ pasted_front s (a ++ (x ∷ []))
+
+-- a write at the start of what lies behind the bytes that are written
+pub over_next : (s s1 part : List ℕ) (a b : List ℕ) (q : ℕ) → s1 ≡ over a s → q ≡ length a → q + length b ≤ length s → part ≡ over b (take (length s1 - q) (drop q s1))
+    → put_mid q (length s1 - q) s1 part ≡ over (a ++ b) s
+over_next s s1 part a b q e l h w =
+    let f : s1 ≡ pasted s 0 a = e ∙ sym (pasted_front s a) in
+    let long : length s1 ≡ length s = ap length f ∙ length-pasted s 0 a (omega arith) in
+    pasted-next s s1 (put_mid q (length s1 - q) s1 part) 0 a b q f (put-behind s1 q b part (omega arith) w) (omega arith) h ∙ pasted_front s (a ++ b)
+
+-- what lies behind a place, and the whole after a write there
+pub length-behind : (s : List ℕ) (q : ℕ) → length (take (length s - q) (drop q s)) ≡ length s - q
+length-behind s q = simp (length-take, length-drop) (omega arith)
+
+pub length-put : (s part : List ℕ) (q : ℕ) → q ≤ length s → length part ≡ length (take (length s - q) (drop q s)) → length (put_mid q (length s - q) s part) ≡ length s
+length-put s part q h e =
+    let l = length-behind s q in
+    simp (length-append, length-take, length-drop) (omega arith)

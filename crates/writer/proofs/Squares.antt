@@ -3,6 +3,7 @@ use Rattle.std.proofs.Common.{◌≡◌, ℕ, zero, suc, ◌+◌, ◌-◌, ◌*�
 use mathlib.Core.Path.{fun_ext}
 use native.Mathlib.Nat.{div-add-mod}
 use lib.IntN.{+ℤ_idr}
+use borrow.Rule.Slice.PartMut.{put_mid}
 use Rattle.std.specs.List.{range_with_len, flat_map}
 use Rattle.std.proofs.lemmas.List.{get_or-take, get_or-drop, length-take-le}
 use Rattle.std.proofs.lemmas.Bool.{and_parts, and_from, and_left, and_right, cond-true, cond-false, lt-ltb, le-ltb, ltb-true, le-leb, lt-leb, leb-true, cases_lt}
@@ -15,13 +16,13 @@ use Rattle.picture.specs.Steps.{grounded, ground_of, embedded}
 use Rattle.picture.specs.Compose.{taken}
 use Rattle.picture.specs.Prepare.{code_at}
 use Rattle.writer.specs.File.{place_of, place_bytes, pixel_bytes, pixel_width, reading, header, header_of, raster, file}
-use Rattle.writer.specs.Layout.{pasted, repeated, code_bytes, row_bytes, rows_bytes, square_bytes}
+use Rattle.writer.specs.Layout.{repeated, code_bytes, row_bytes, rows_bytes, square_bytes}
 use Rattle.writer.specs.Calls.{early, ending, over}
 use Rattle.writer.specs.Tiles.{tiles, Cut, cut, tile, cut_places, tile_width, tile_end}
 use Rattle.writer.proofs.Ends.{Part}
 use Rattle.writer.proofs.Codes.{at_place, each_clean, code_bytes_lem}
 use Rattle.writer.proofs.Joins.{by_place, joined_parts, joined_same, joined_shift, room, times_split, times_suc, length-pixel_bytes, length_parts, length-rows_bytes, square_split}
-use Rattle.writer.proofs.Paste.{pasted-next, pasted_front}
+use Rattle.writer.proofs.Paste.{over_next}
 
 -- a number below a product has a factor above 0
 mul_zero_of : (a s k : ℕ) → k < a * s → 0 < s
@@ -161,18 +162,17 @@ module _ {K S : Type 0} (o : Ops K S) (i : Image K) (c r side : ℕ) where
         file_long = length-append (header_of o (tile o i c r side)) (raster o (tile o i c r side)) ∙ ap (λ n. length (header_of o (tile o i c r side)) + n) (ap length (sym square-reading) ∙ square_long)
 
         -- the header and then the square are the tile's file
-        pub file-written : (out out1 out2 : List ℕ) (mark w h m head : ℕ) → mark ≡ o.mark → w ≡ (cut o i c r side).width → h ≡ (cut o i c r side).height → m ≡ i.maxval
-            → out1 ≡ pasted out 0 (header mark side side m) → head ≡ length (header mark side side m) → out2 ≡ pasted out1 head (square_bytes o m pad side w h codes)
-            → tile_width o i c r side ≤ length out → out2 ≡ over (file o (tile o i c r side)) out
-        file-written out out1 out2 mark w h m head ek ew eh em e1 el e2 fit =
+        pub file-written : (out out1 part : List ℕ) (mark w h m head : ℕ) → mark ≡ o.mark → w ≡ (cut o i c r side).width → h ≡ (cut o i c r side).height → m ≡ i.maxval
+            → out1 ≡ over (header mark side side m) out → head ≡ length (header mark side side m) → part ≡ over (square_bytes o m pad side w h codes) (take (length out1 - head) (drop head out1))
+            → tile_width o i c r side ≤ length out → put_mid head (length out1 - head) out1 part ≡ over (file o (tile o i c r side)) out
+        file-written out out1 part mark w h m head ek ew eh em e1 el e2 fit =
             let a : header mark side side m ≡ header_of o (tile o i c r side) = ap (λ x. header x side side m) ek ∙ ap (header o.mark side side) em in
             let b : square_bytes o m pad side w h codes ≡ raster o (tile o i c r side) =
             ap (λ x. square_bytes o x pad side w h codes) em ∙ ap (λ x. square_bytes o i.maxval pad side x h codes) ew
             ∙ ap (λ x. square_bytes o i.maxval pad side (cut o i c r side).width x codes) eh ∙ square-reading in
             let long = ap length (sym square-reading) ∙ square_long in
-            pasted-next out out1 out2 0 (header_of o (tile o i c r side)) (raster o (tile o i c r side)) head (e1 ∙ ap (pasted out 0) a) (e2 ∙ ap (pasted out1 head) b)
-            (zero-add (length (header_of o (tile o i c r side))) ∙ sym (el ∙ ap length a)) (omega (arith, ap length a))
-            ∙ pasted_front out (file o (tile o i c r side))
+            over_next out out1 part (header_of o (tile o i c r side)) (raster o (tile o i c r side)) head (e1 ∙ ap (λ t. over t out) a) (el ∙ ap length a) (omega (arith, ap length a))
+            (e2 ∙ ap (λ t. over t (take (length out1 - head) (drop head out1))) b)
 
   -- the rectangle of the visible part
   module _ (x : Rect) (is : Cut i.width i.height c r side x) where

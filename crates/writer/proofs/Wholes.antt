@@ -1,7 +1,6 @@
 -- One strip after another up to the last row.
-use Rattle.std.proofs.Common.{◌≡◌, ℕ, ◌+◌, ◌-◌, ◌*◌, ◌<◌, ◌≤◌, min, true, false, ◌&&◌, eqb, leb, ◌⊎◌, List, [], ◌++◌, length, take, drop, Some, None, Ok, Err, Option, Result, sym, refl, ap, ◌∙◌, subst, inl, inr, mul-le-mul_right, add-mul, zero-add, mul-add, arith, length-drop}
-use borrow.Rule.Slice.PartMut.{put_mid, post_of}
-use Rattle.std.proofs.lemmas.List.{append-nil, drop-drop, drop_all, take_all}
+use Rattle.std.proofs.Common.{◌≡◌, ℕ, ◌+◌, ◌-◌, ◌*◌, ◌<◌, ◌≤◌, min, true, false, ◌&&◌, eqb, leb, ◌⊎◌, List, [], ◌++◌, length, take, drop, Some, None, Ok, Err, Option, Result, sym, refl, ap, ◌∙◌, subst, inl, inr, mul-le-mul_right, add-mul, zero-add, mul-add, arith}
+use borrow.Rule.Slice.PartMut.{put_mid}
 use Rattle.std.proofs.lemmas.Nat.{mul-le}
 use Rattle.std.proofs.lemmas.Bool.{and_from, and_left, and_right, cond-true, cond-false, eq-eqb, ne_eqb, le-leb, lt-leb}
 use Rattle.pixel.specs.Ops.{Ops}
@@ -16,21 +15,10 @@ use Rattle.writer.specs.File.{place_of, pixel_width, reading, header_of, raster,
 use Rattle.writer.specs.Whole.{file_width, file_end, Left, Filed}
 use Rattle.writer.specs.Layout.{pasted}
 use Rattle.writer.specs.Calls.{End, early, wrote, ending, outcome_of, amount, end_outcome, end_amount, end_bytes, over, rows_of, places_of, ahead, fits, strip_end, strip_bytes, Strip}
-use Rattle.writer.proofs.Paste.{pasted-next, pasted_front, length-pasted}
+use Rattle.writer.proofs.Paste.{pasted-next, pasted_front, length-pasted, put-behind}
 use Rattle.writer.proofs.Codes.{reading_long}
 use Rattle.writer.proofs.Nexts.{as_wide, as_high, as_bright, ahead_in, end_open}
 use Rattle.writer.proofs.Logs.{reading_join}
-
--- a write at the start of what lies behind a place
-pub put-behind : (out : List ℕ) (a : ℕ) (bytes part : List ℕ) → a ≤ length out → part ≡ over bytes (take (length out - a) (drop a out)) → put_mid a (length out - a) out part ≡ pasted out a bytes
-unfolding pasted
-put-behind out a bytes part h e =
-    let l = length-drop a out in
-    let t : take (length out - a) (drop a out) ≡ drop a out = take_all (length out - a) (drop a out) (omega arith) in
-    let z : a + (length out - a) ≡ length out = omega arith in
-    ap (λ x. take a out ++ (x ++ post_of a (length out - a) out)) (e ∙ ap (over bytes) t ∙ ap (λ x. bytes ++ x) (drop-drop (length bytes) a out))
-    ∙ ap (λ x. take a out ++ ((bytes ++ drop (a + length bytes) out) ++ x)) (drop-drop (length out - a) a out ∙ ap (λ n. drop n out) z ∙ drop_all (length out) out (omega arith))
-    ∙ ap (λ x. take a out ++ x) (append-nil (bytes ++ drop (a + length bytes) out))
 
 no_hole : (x : Option Fault) → done ≡ end_outcome (ending None x) → x ≡ None
 no_hole None e = refl
@@ -56,9 +44,9 @@ module _ {K S : Type 0} (o : Ops K S) where
     pub writes : part' ≡ end_bytes (strip_end o i v s lw (length part)) (strip_bytes o i v s) part
     pub next : v'.next ≡ v.next + end_amount (strip_end o i v s lw (length part)) (rows_of v s)
 
-  pub turned : {P : Type 0} (model : P → Model K) (count : P → ℕ) (sound : P → Type 0) (i : Image K) (p : P) (s : ℕ) (v : RowWriter) (work part : List ℕ) (a : Result ℕ Refusal) (q : P) (v' : RowWriter) (work' part' : List ℕ)
-      → (model p).shown ≡ i → Strip o model count sound p s v work part a q v' work' part' → Turn i v s (length work) part a v' part'
-  turned model count sound i p s v work part a q v' work' part' e x =
+  pub turned : {P : Type 0} (model : P → Model K) (count : P → ℕ) (i : Image K) (p : P) (s : ℕ) (v : RowWriter) (work part : List ℕ) (a : Result ℕ Refusal) (q : P) (v' : RowWriter) (work' part' : List ℕ)
+      → (model p).shown ≡ i → Strip o model count p s v work part a q v' work' part' → Turn i v s (length work) part a v' part'
+  turned model count i p s v work part a q v' work' part' e x =
       let D : Image K → Type 0 = λ z. Turn z v s (length work) part a v' part' in
       subst D e (record { answers = x.part.answers; amounts = x.part.amounts; writes = x.part.writes; next = x.next })
 
@@ -178,16 +166,15 @@ module _ {K S : Type 0} (o : Ops K S) where
           ap (λ x. ending x (first_fault (place_of i) (i.width * i.height)))
           (cond-false _ _ _ (ne_eqb s 0 some) ∙ cond-true _ _ _ (and_from _ _ (le-leb (i.width * min s i.height) l p) (le-leb (file_width o i) m q)))
 
-  module _ {P : Type 0} (model : P → Model K) (count : P → ℕ) (sound : P → Type 0) (p : P) (s : ℕ) (work out : List ℕ) where
-    pub early_filed : (n : ℕ) (e : Refusal) → file_end o (model p).shown s (length work) (length out) ≡ early n → told e ≡ refused n [] → sound p → Filed o model count sound p s work out (Err e) p work out
-    early_filed n e q t h =
-        let D : End → Type 0 = λ z. Left o model count sound z p work out p work out in
+  module _ {P : Type 0} (model : P → Model K) (count : P → ℕ) (p : P) (s : ℕ) (work out : List ℕ) where
+    pub early_filed : (n : ℕ) (e : Refusal) → file_end o (model p).shown s (length work) (length out) ≡ early n → told e ≡ refused n [] → Filed o model count p s work out (Err e) p work out
+    early_filed n e q t =
+        let D : End → Type 0 = λ z. Left o model count z p work out p work out in
         record {
           answers = t ∙ ap end_outcome (sym q);
           amounts = ap (λ z. end_amount z (length (file o (model p).shown))) (sym q);
           leaves = subst D (sym q) (refl, refl, refl);
           keeps = refl;
-          stays = h;
         }
 
     none_written : (a : Result ℕ Refusal) (k : ℕ) (vs : List ℕ) → outcome_of a ≡ refused k vs → amount a ≡ 0
@@ -195,24 +182,22 @@ module _ {K S : Type 0} (o : Ops K S) where
     none_written (Err r) k vs e = refl
 
     pub filed : (a : Result ℕ Refusal) (q : P) (work' out' : List ℕ) (x : Option Fault) → file_end o (model p).shown s (length work) (length out) ≡ ending None x → outcome_of a ≡ end_outcome (ending None x)
-        → (outcome_of a ≡ done → (out' ≡ over (file o (model p).shown) out) × (amount a ≡ length (file o (model p).shown))) → model q ≡ model p → sound q → Filed o model count sound p s work out a q work' out'
-    filed a q work' out' None e t w k h =
-        let D : End → Type 0 = λ z. Left o model count sound z p work out q work' out' in
+        → (outcome_of a ≡ done → (out' ≡ over (file o (model p).shown) out) × (amount a ≡ length (file o (model p).shown))) → model q ≡ model p → Filed o model count p s work out a q work' out'
+    filed a q work' out' None e t w k =
+        let D : End → Type 0 = λ z. Left o model count z p work out q work' out' in
         record {
           answers = t ∙ ap end_outcome (sym e);
           amounts = (w t).1 ∙ ap (λ z. end_amount z (length (file o (model p).shown))) (sym e);
           leaves = subst D (sym e) (w t).0;
           keeps = k;
-          stays = h;
         }
-    filed a q work' out' (Some f) e t w k h =
-        let D : End → Type 0 = λ z. Left o model count sound z p work out q work' out' in
+    filed a q work' out' (Some f) e t w k =
+        let D : End → Type 0 = λ z. Left o model count z p work out q work' out' in
         record {
           answers = t ∙ ap end_outcome (sym e);
           amounts = none_written a _ _ t ∙ ap (λ z. end_amount z (length (file o (model p).shown))) (sym e);
           leaves = subst D (sym e) tt;
           keeps = k;
-          stays = h;
         }
 
   -- the header, and then the raster behind it, are the file

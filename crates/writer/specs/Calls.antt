@@ -66,7 +66,7 @@ end_bytes (early m) bytes buffer = buffer
 end_bytes (holed f) bytes buffer = buffer
 end_bytes wrote bytes buffer = over bytes buffer
 
-module _ {P K S : Type 0} (o : Ops K S) (model : P → Model K) (count : P → ℕ) (sound : P → Type 0) where
+module _ {P K S : Type 0} (o : Ops K S) (model : P → Model K) (count : P → ℕ) where
   -- a call that ends so, where the part has n places and these bytes are to be written: p, the codes, the bytes and the answer, then the same behind it
   pub record Wrote (e : End) (place : ℕ → Place K) (n : ℕ) (bytes : List ℕ) (p : P) (work out : List ℕ) (a : Result ℕ Refusal) (q : P) (work' out' : List ℕ) : Type 0 where
     pub answers : outcome_of a ≡ end_outcome e
@@ -75,7 +75,6 @@ module _ {P K S : Type 0} (o : Ops K S) (model : P → Model K) (count : P → �
     pub writes : out' ≡ end_bytes e bytes out
     pub counts : count q ≡ end_count e (count p)
     pub keeps : model q ≡ model p
-    pub stays : sound q
 
 -- how many rows and places the next strip of height s has
 abbrev pub rows_of : RowWriter → ℕ → ℕ
@@ -121,10 +120,10 @@ module _ {K S : Type 0} (o : Ops K S) where
   Begun i out (Ok x) out' = Opened i out x.0 x.1 out'
   Begun i out (Err e) out' = (length out < length (header_of o i)) × (told e ≡ refused 11 []) × (out' ≡ out)
 
-module _ {P K S : Type 0} (o : Ops K S) (model : P → Model K) (count : P → ℕ) (sound : P → Type 0) where
+module _ {P K S : Type 0} (o : Ops K S) (model : P → Model K) (count : P → ℕ) where
   -- a strip of height s of p by the writer w, which are q and w' behind it
   pub record Strip (p : P) (s : ℕ) (w : RowWriter) (work out : List ℕ) (a : Result ℕ Refusal) (q : P) (w' : RowWriter) (work' out' : List ℕ) : Type 0 where
-    pub part : Wrote o model count sound (strip_end o (model p).shown w s (length work) (length out)) (ahead (model p).shown w) (places_of w s) (strip_bytes o (model p).shown w s) p work out a q work' out'
+    pub part : Wrote o model count (strip_end o (model p).shown w s (length work) (length out)) (ahead (model p).shown w) (places_of w s) (strip_bytes o (model p).shown w s) p work out a q work' out'
     pub next : w'.next ≡ w.next + end_amount (strip_end o (model p).shown w s (length work) (length out)) (rows_of w s)
     pub size : w'.size ≡ w.size
     pub mark : w'.mark ≡ w.mark

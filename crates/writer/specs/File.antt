@@ -2,13 +2,11 @@
 use Rattle.std.specs.Prelude.{ℕ, ◌*◌, ◌/◌, ◌%◌, cond, List, [], ◌∷◌, ◌++◌, decimal, nat_lt}
 use Rattle.std.specs.List.{range_with_len, flat_map}
 use Rattle.pixel.specs.Ops.{Ops}
+pub use Rattle.pixel.specs.Widths.{sample_width, pixel_width}
 use Rattle.picture.specs.Places.{Place, pixel, hole}
 use Rattle.picture.specs.Images.{Image}
 
 -- a sample is one byte if maxval is below 256, else two, the high byte first
-abbrev pub sample_width : ℕ → ℕ
-sample_width maxval = cond (nat_lt maxval 256) 1 2
-
 abbrev pub sample_bytes : ℕ → ℕ → List ℕ
 sample_bytes maxval s = cond (nat_lt maxval 256) (s ∷ []) (s / 256 ∷ (s % 256 ∷ []))
 
@@ -25,9 +23,6 @@ abbrev pub place_of : {K : Type 0} → Image K → ℕ → Place K
 place_of i k = i.at (k % i.width) (k / i.width)
 
 module _ {K S : Type 0} (o : Ops K S) where
-  abbrev pub pixel_width : ℕ → ℕ
-  pixel_width maxval = o.depth * sample_width maxval
-
   abbrev pub pixel_bytes : ℕ → K → List ℕ
   pixel_bytes maxval p = flat_map (sample_bytes maxval) (o.samples p)
 

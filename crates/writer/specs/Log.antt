@@ -16,14 +16,14 @@ use Rattle.writer.specs.Calls.{amount, Strip}
 use Rattle.writer.specs.Tiles.{Tiled}
 use Rattle.writer.specs.Whole.{Filed}
 
-module _ {P K S : Type 0} (o : Ops K S) (model : P → Model K) (count : P → ℕ) (sound bare : P → Type 0) where
+module _ {P K S : Type 0} (o : Ops K S) (model : P → Model K) (count : P → ℕ) (bare : P → Type 0) where
   -- a call of p, which is q behind it; size, count and begin alter nothing and are left out
   pub data Call (p q : P) : Type 0 where
-    prepared : {r : Rect} {work work' : List ℕ} {a : Result Unit Refusal} → Prepared o model count sound p r work a q work' → Call p q
-    forgot : Forgot model count sound bare p q → Call p q
-    stripped : {s : ℕ} {w w' : RowWriter} {work work' out out' : List ℕ} {a : Result ℕ Refusal} → Strip o model count sound p s w work out a q w' work' out' → Call p q
-    tiled : {c r side : ℕ} {work work' out out' : List ℕ} {a : Result ℕ Refusal} → Tiled o model count sound p c r side work out a q work' out' → Call p q
-    filed : {s : ℕ} {work work' out out' : List ℕ} {a : Result ℕ Refusal} → Filed o model count sound p s work out a q work' out' → Call p q
+    prepared : {r : Rect} {work work' : List ℕ} {a : Result Unit Refusal} → Prepared o model count p r work a q work' → Call p q
+    forgot : Forgot model count bare p q → Call p q
+    stripped : {s : ℕ} {w w' : RowWriter} {work work' out out' : List ℕ} {a : Result ℕ Refusal} → Strip o model count p s w work out a q w' work' out' → Call p q
+    tiled : {c r side : ℕ} {work work' out out' : List ℕ} {a : Result ℕ Refusal} → Tiled o model count p c r side work out a q work' out' → Call p q
+    filed : {s : ℕ} {work work' out out' : List ℕ} {a : Result ℕ Refusal} → Filed o model count p s work out a q work' out' → Call p q
 
   -- calls one after another
   pub data Log (p : P) : P → Type 0 where
@@ -35,7 +35,7 @@ module _ {P K S : Type 0} (o : Ops K S) (model : P → Model K) (count : P → �
     start : Strips p w p w []
     other : {q r : P} {v : RowWriter} {bytes : List ℕ} → Strips p w q v bytes → Call q r → Strips p w r v bytes
     strip : {q r : P} {v v' : RowWriter} {bytes : List ℕ} {s : ℕ} {work work' out out' : List ℕ} {a : Result ℕ Refusal}
-        → Strips p w q v bytes → Strip o model count sound q s v work out a r v' work' out' → Strips p w r v' (bytes ++ take (amount a) out')
+        → Strips p w q v bytes → Strip o model count q s v work out a r v' work' out' → Strips p w r v' (bytes ++ take (amount a) out')
 
   -- the picture composed from p's source by p's steps
   abbrev pub whole : P → Image K
@@ -73,10 +73,10 @@ module _ {K S : Type 0} (o : Ops K S) where
     pub tells : (u v : ℕ) (f : Fault) → Within r u v → i.at u v ≡ hole f → (e : Fault) × First i r e × (outcome a ≡ refused 12 (fault_values e)) × ((k : ℕ) → k < area r → slice_index after k ≡ 0)
     pub stays : drop (area r) after ≡ drop (area r) before
 
-module _ {P K S : Type 0} (o : Ops K S) (model : P → Model K) (count : P → ℕ) (sound bare : P → Type 0) where
-  -- behind any log from a sound picture, a prepare inside it with a long enough buffer answers the composed picture's pixels or its first hole
+module _ {P K S : Type 0} (o : Ops K S) (model : P → Model K) (count : P → ℕ) (bare : P → Type 0) where
+  -- behind any log from a picture, a prepare inside it with a long enough buffer answers the composed picture's pixels or its first hole
   abbrev pub Answers : Type 0
-  Answers = (p q : P) → sound p → Log o model count sound bare p q
-      → (r : Rect) (before after : List ℕ) (a : Result Unit Refusal) (q' : P) → Prepared o model count sound q r before a q' after
-      → r.left + r.width ≤ (whole o model count sound bare p).width → r.top + r.height ≤ (whole o model count sound bare p).height → area r ≤ length before
-      → Answered o (whole o model count sound bare p) r before a after
+  Answers = (p q : P) → Log o model count bare p q
+      → (r : Rect) (before after : List ℕ) (a : Result Unit Refusal) (q' : P) → Prepared o model count q r before a q' after
+      → r.left + r.width ≤ (whole o model count bare p).width → r.top + r.height ≤ (whole o model count bare p).height → area r ≤ length before
+      → Answered o (whole o model count bare p) r before a after

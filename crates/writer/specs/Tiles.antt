@@ -61,8 +61,8 @@ module _ {K S : Type 0} (o : Ops K S) where
   unfoldable pub tile_end : Image K → ℕ → ℕ → ℕ → ℕ → ℕ → End
   tile_end i c r side work out = ending (tile_check i c r side work out) (first_fault (place_of (cut i c r side)) (cut_places i c r side))
 
-module _ {P K S : Type 0} (o : Ops K S) (model : P → Model K) (count : P → ℕ) (sound : P → Type 0) where
+module _ {P K S : Type 0} (o : Ops K S) (model : P → Model K) (count : P → ℕ) where
   -- the file of the tile (c, r) of p, which is q behind it
   pub record Tiled (p : P) (c r side : ℕ) (work out : List ℕ) (a : Result ℕ Refusal) (q : P) (work' out' : List ℕ) : Type 0 where
-    pub part : Wrote o model count sound (tile_end o (model p).shown c r side (length work) (length out)) (place_of (cut o (model p).shown c r side)) (cut_places o (model p).shown c r side)
+    pub part : Wrote o model count (tile_end o (model p).shown c r side (length work) (length out)) (place_of (cut o (model p).shown c r side)) (cut_places o (model p).shown c r side)
         (file o (tile o (model p).shown c r side)) p work out a q work' out'

@@ -21,7 +21,7 @@ module _ {K S : Type 0} (o : Ops K S) where
   unfoldable pub file_end : Image K → ℕ → ℕ → ℕ → End
   file_end i s work out = ending (file_check i s work out) (first_fault (place_of i) (i.width * i.height))
 
-module _ {P K S : Type 0} (o : Ops K S) (model : P → Model K) (count : P → ℕ) (sound : P → Type 0) where
+module _ {P K S : Type 0} (o : Ops K S) (model : P → Model K) (count : P → ℕ) where
   -- what is left of the picture and the buffers; where there is a hole, the bytes before its strip are written
   abbrev pub Left : End → P → List ℕ → List ℕ → P → List ℕ → List ℕ → Type 0
   Left (early n) p work out q work' out' = (q ≡ p) × (work' ≡ work) × (out' ≡ out)
@@ -34,4 +34,3 @@ module _ {P K S : Type 0} (o : Ops K S) (model : P → Model K) (count : P → �
     pub amounts : amount a ≡ end_amount (file_end o (model p).shown s (length work) (length out)) (length (file o (model p).shown))
     pub leaves : Left (file_end o (model p).shown s (length work) (length out)) p work out q work' out'
     pub keeps : model q ≡ model p
-    pub stays : sound q

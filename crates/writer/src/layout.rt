@@ -1,114 +1,92 @@
 ghost use Rattle.std.specs.Prelude.{◌≡◌, ℕ, ◌+◌, ◌-◌, ◌*◌, ◌<◌, ◌≤◌, length, slice_index};
 ghost use Rattle.std.specs.List.{flat_map};
 ghost use Rattle.pixel.specs.Ops.{Under};
-ghost use Rattle.writer.specs.File.{sample_width, sample_bytes, pixel_width, pixel_bytes};
-ghost use Rattle.writer.specs.Layout.{pasted, repeated, code_bytes, Known, row_bytes, rows_bytes};
+ghost use Rattle.pixel.specs.Widths.{sample_width, pixel_width};
+ghost use Rattle.writer.specs.File.{sample_bytes, pixel_bytes};
+ghost use Rattle.writer.specs.Layout.{repeated, code_bytes, Known, row_bytes, rows_bytes};
+ghost use Rattle.writer.specs.Calls.{over};
 
 use pixel::Kind;
 
-/// How many bytes a pixel has.
-pub(crate) fn pixel_bytes<K: Kind>(maxval: u16) -> usize
-    ensures value { result ≡ pixel_width K.ops maxval }
-    ensures few { result ≤ 6 }
-{
-    if maxval < 256 {
-        K::depth()
-    } else {
-        K::depth() * 2
-    }
-}
+// Each function here writes at the start of the buffer, and answers how many bytes it wrote.
 
-/// Writes a sample from the place `p` on, and answers the place behind it.
-fn put_sample(out: &mut [u8], p: usize, sample: u16, maxval: u16) -> usize
-    requires room { p + sample_width maxval ≤ length out.old }
+/// Writes a sample.
+fn put_sample(out: &mut [u8], sample: u16, maxval: u16) -> usize
+    requires room { sample_width maxval ≤ length out.old }
     requires under { sample ≤ maxval }
-    ensures end { result ≡ p + sample_width maxval }
-    ensures out { out.new ≡ pasted out.old p (sample_bytes maxval sample) }
+    ensures end { result ≡ sample_width maxval }
+    ensures out { out.new ≡ over (sample_bytes maxval sample) out.old }
 {
     if maxval < 256 {
-        out[p] = sample as u8;
-        p + 1
+        out[0] = sample as u8;
+        1
     } else {
-        out[p] = (sample / 256) as u8;
-        out[p + 1] = (sample % 256) as u8;
-        p + 2
+        out[0] = (sample / 256) as u8;
+        out[1] = (sample % 256) as u8;
+        2
     }
 }
 
 /// Writes the samples of a pixel in their order.
-fn put_pixel<K: Kind>(out: &mut [u8], p: usize, pixel: K, maxval: u16) -> usize
-    requires room { p + pixel_width K.ops maxval ≤ length out.old }
+fn put_pixel<K: Kind>(out: &mut [u8], pixel: K, maxval: u16) -> usize
+    requires room { pixel_width K.ops maxval ≤ length out.old }
     requires under { Under maxval (K.ops.samples pixel) }
-    ensures end { result ≡ p + pixel_width K.ops maxval }
-    ensures out { out.new ≡ pasted out.old p (pixel_bytes K.ops maxval pixel) }
+    ensures end { result ≡ pixel_width K.ops maxval }
+    ensures out { out.new ≡ over (pixel_bytes K.ops maxval pixel) out.old }
 {
-    let mut at = p;
+    let mut end = 0;
     for k in 0..K::depth() {
-        at = put_sample(out, at, pixel.sample(k), maxval);
+        end += put_sample(&mut out[end..], pixel.sample(k), maxval);
     }
-    at
+    end
 }
 
 /// Writes the pixels of codes.
-pub(crate) fn put_codes<K: Kind>(out: &mut [u8], p: usize, codes: &[u64], maxval: u16) -> usize
-    requires room { p + length codes.now * pixel_width K.ops maxval ≤ length out.old }
+pub(crate) fn put_codes<K: Kind>(out: &mut [u8], codes: &[u64], maxval: u16) -> usize
+    requires room { length codes.now * pixel_width K.ops maxval ≤ length out.old }
     requires known { (k : ℕ) → k < length codes.now → Known K.ops maxval (K.ops.decode (slice_index codes.now k)) }
-    ensures end { result ≡ p + length codes.now * pixel_width K.ops maxval }
-    ensures out { out.new ≡ pasted out.old p (flat_map (code_bytes K.ops maxval) codes.now) }
+    ensures end { result ≡ length codes.now * pixel_width K.ops maxval }
+    ensures out { out.new ≡ over (flat_map (code_bytes K.ops maxval) codes.now) out.old }
 {
-    let mut at = p;
-    for k in 0..codes.len() {
-        if let Some(pixel) = K::decode(codes[k]) {
-            at = put_pixel(out, at, pixel, maxval);
+    let mut end = 0;
+    for code in codes {
+        if let Some(pixel) = K::decode(*code) {
+            end += put_pixel(&mut out[end..], pixel, maxval);
         }
     }
-    at
+    end
 }
 
 /// Writes a pixel so many times.
-pub(crate) fn put_same<K: Kind>(
-    out: &mut [u8],
-    p: usize,
-    pixel: K,
-    count: usize,
-    maxval: u16,
-) -> usize
-    requires room { p + count * pixel_width K.ops maxval ≤ length out.old }
+pub(crate) fn put_same<K: Kind>(out: &mut [u8], pixel: K, count: usize, maxval: u16) -> usize
+    requires room { count * pixel_width K.ops maxval ≤ length out.old }
     requires under { Under maxval (K.ops.samples pixel) }
-    ensures end { result ≡ p + count * pixel_width K.ops maxval }
-    ensures out { out.new ≡ pasted out.old p (repeated (pixel_bytes K.ops maxval pixel) count) }
+    ensures end { result ≡ count * pixel_width K.ops maxval }
+    ensures out { out.new ≡ over (repeated (pixel_bytes K.ops maxval pixel) count) out.old }
 {
-    let mut at = p;
-    for _k in 0..count {
-        at = put_pixel(out, at, pixel, maxval);
+    let mut end = 0;
+    for _ in 0..count {
+        end += put_pixel(&mut out[end..], pixel, maxval);
     }
-    at
+    end
 }
 
 /// Writes the pixels of codes, and then `pad` until there are `side` pixels.
-fn put_row<K: Kind>(
-    out: &mut [u8],
-    p: usize,
-    codes: &[u64],
-    side: usize,
-    pad: K,
-    maxval: u16,
-) -> usize
+fn put_row<K: Kind>(out: &mut [u8], codes: &[u64], side: usize, pad: K, maxval: u16) -> usize
     requires within { length codes.now ≤ side }
-    requires room { p + side * pixel_width K.ops maxval ≤ length out.old }
+    requires room { side * pixel_width K.ops maxval ≤ length out.old }
     requires known { (k : ℕ) → k < length codes.now → Known K.ops maxval (K.ops.decode (slice_index codes.now k)) }
     requires under { Under maxval (K.ops.samples pad) }
-    ensures end { result ≡ p + side * pixel_width K.ops maxval }
-    ensures out { out.new ≡ pasted out.old p (row_bytes K.ops maxval pad side codes.now) }
+    ensures end { result ≡ side * pixel_width K.ops maxval }
+    ensures out { out.new ≡ over (row_bytes K.ops maxval pad side codes.now) out.old }
 {
-    let at = put_codes::<K>(out, p, codes, maxval);
-    put_same(out, at, pad, side - codes.len(), maxval)
+    let end = put_codes::<K>(out, codes, maxval);
+    end + put_same(&mut out[end..], pad, side - codes.len(), maxval)
 }
 
 /// Writes rows of codes, each padded to `side` pixels.
 pub(crate) fn put_rows<K: Kind>(
     out: &mut [u8],
-    p: usize,
     codes: &[u64],
     wide: usize,
     high: usize,
@@ -118,22 +96,21 @@ pub(crate) fn put_rows<K: Kind>(
 ) -> usize
     requires codes { high * wide ≤ length codes.now }
     requires within { wide ≤ side }
-    requires room { p + high * (side * pixel_width K.ops maxval) ≤ length out.old }
+    requires room { high * (side * pixel_width K.ops maxval) ≤ length out.old }
     requires known { (k : ℕ) → k < high * wide → Known K.ops maxval (K.ops.decode (slice_index codes.now k)) }
     requires under { Under maxval (K.ops.samples pad) }
-    ensures end { result ≡ p + high * (side * pixel_width K.ops maxval) }
-    ensures out { out.new ≡ pasted out.old p (rows_bytes K.ops maxval pad side wide codes.now high) }
+    ensures end { result ≡ high * (side * pixel_width K.ops maxval) }
+    ensures out { out.new ≡ over (rows_bytes K.ops maxval pad side wide codes.now high) out.old }
 {
-    let mut at = p;
+    let mut end = 0;
     for j in 0..high {
-        at = put_row(
-            out,
-            at,
+        end += put_row(
+            &mut out[end..],
             &codes[j * wide..j * wide + wide],
             side,
             pad,
             maxval,
         );
     }
-    at
+    end
 }

@@ -3,10 +3,10 @@ ghost use Rattle.writer.specs.Calls.{fits, Begun, Strip, Finished};
 ghost use Rattle.writer.specs.Log.{Joined};
 
 use crate::header::{header_bytes, put_header};
-use crate::layout::{pixel_bytes, put_codes};
+use crate::layout::put_codes;
 use crate::row_writer::RowWriter;
 use picture::{Picture, Rect, Refusal, Refused};
-use pixel::Kind;
+use pixel::{Kind, pixel_bytes};
 
 /// Writes the header of the picture's file at the start of the buffer; answers how many bytes it has, and the writer of the rows.
 pub fn begin<P: Picture>(picture: &P, out: &mut [u8]) -> Result<(usize, RowWriter), Refusal>
@@ -17,7 +17,7 @@ pub fn begin<P: Picture>(picture: &P, out: &mut [u8]) -> Result<(usize, RowWrite
     if out.len() < header_bytes(size.width, size.height, size.maxval) {
         return Err(Refusal::BufferTooShort);
     }
-    let mark = <P::Pixel as Kind>::mark();
+    let mark = P::Pixel::mark();
     let bytes = put_header(out, mark, size.width, size.height, size.maxval);
     Ok((
         bytes,
@@ -34,27 +34,7 @@ impl RowWriter {
     fn serves<P: Picture>(&self, picture: &P) -> bool
         ensures { result ≡ fits P.Pixel.ops (P.model picture.now).shown self.now }
     {
-        let size = picture.size();
-        let mark = <P::Pixel as Kind>::mark();
-        (self.size.width == size.width && self.size.height == size.height)
-            && (self.size.maxval == size.maxval && self.mark == mark)
-    }
-
-    /// The next rows.
-    fn part(&self, rows: u32) -> Rect
-        requires some { 1 ≤ rows }
-        requires left { self.now.next + rows ≤ self.now.size.height }
-        ensures left { result.left ≡ 0 }
-        ensures top { result.top ≡ self.now.next }
-        ensures width { result.width ≡ self.now.size.width }
-        ensures height { result.height ≡ rows }
-    {
-        Rect {
-            left: 0,
-            top: self.next,
-            width: self.size.width,
-            height: rows,
-        }
+        self.size == picture.size() && self.mark == P::Pixel::mark()
     }
 
     /// Writes the next rows, as many as `height` and as are left, at the start of the buffer; answers how many bytes they have. The work buffer holds their codes.
@@ -79,12 +59,14 @@ impl RowWriter {
         if work.len() < places || out.len() < bytes {
             return Err(Refusal::BufferTooShort);
         }
-        let part = self.part(rows);
-        match picture.prepare(part, work) {
-            Ok(()) => {}
-            Err(refusal) => return Err(refusal),
-        }
-        let _end = put_codes::<P::Pixel>(out, 0, &work[..places], self.size.maxval);
+        let part = Rect {
+            left: 0,
+            top: self.next,
+            width: self.size.width,
+            height: rows,
+        };
+        picture.prepare(part, work)?;
+        put_codes::<P::Pixel>(out, &work[..places], self.size.maxval);
         self.next += rows;
         Ok(bytes)
     }

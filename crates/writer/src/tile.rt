@@ -3,31 +3,25 @@ ghost use Rattle.pixel.specs.Ops.{Under};
 ghost use Rattle.picture.specs.Places.{Place, pixel};
 ghost use Rattle.picture.specs.Steps.{ground_of, grounded};
 ghost use Rattle.picture.specs.Compose.{taken};
-ghost use Rattle.writer.specs.File.{pixel_width};
-ghost use Rattle.writer.specs.Layout.{pasted, Known, square_bytes};
+ghost use Rattle.pixel.specs.Widths.{pixel_width};
+ghost use Rattle.writer.specs.Layout.{Known, square_bytes};
+ghost use Rattle.writer.specs.Calls.{over};
 ghost use Rattle.writer.specs.Tiles.{Seen, Tiled};
 
 use crate::header::{header_bytes, put_header};
-use crate::layout::{pixel_bytes, put_rows, put_same};
+use crate::layout::{put_rows, put_same};
 use picture::{Ground, Picture, Rect, Refusal, Size};
-use pixel::Kind;
+use pixel::{Kind, pixel_bytes};
 
 /// The largest side of a tile.
 const LARGEST: u32 = 256;
-
-/// The ground of an embedding that names none.
-fn default_ground() -> Ground
-    ensures { result ≡ ground_of None }
-{
-    Ground::Black
-}
 
 /// The pixel that an embedding shows beside the picture that it holds, if it names no ground.
 fn padding<K: Kind>(maxval: u16) -> K
     ensures shown { (at : ℕ → ℕ → Place K) (W H : ℕ) (x y : ℤ) → taken K.ops maxval at (grounded (ground_of None) W H x y) ≡ pixel result }
     ensures under { Under maxval (K.ops.samples result) }
 {
-    match default_ground() {
+    match Ground::default() {
         Ground::Black => K::black(),
         Ground::White => K::white(maxval),
         Ground::Copy => unreachable(),
@@ -56,7 +50,6 @@ fn visible(size: Size, column: u32, row: u32, side: u32) -> Option<Rect>
 /// Writes rows of codes, padded to a square.
 fn put_square<K: Kind>(
     out: &mut [u8],
-    p: usize,
     codes: &[u64],
     wide: usize,
     high: usize,
@@ -68,14 +61,14 @@ fn put_square<K: Kind>(
     requires across { wide ≤ side }
     requires down { high ≤ side }
     requires small { side ≤ 256 }
-    requires room { p + side * side * pixel_width K.ops maxval ≤ length out.old }
+    requires room { side * side * pixel_width K.ops maxval ≤ length out.old }
     requires known { (k : ℕ) → k < high * wide → Known K.ops maxval (K.ops.decode (slice_index codes.now k)) }
     requires under { Under maxval (K.ops.samples pad) }
-    ensures end { result ≡ p + side * side * pixel_width K.ops maxval }
-    ensures out { out.new ≡ pasted out.old p (square_bytes K.ops maxval pad side wide high codes.now) }
+    ensures end { result ≡ side * side * pixel_width K.ops maxval }
+    ensures out { out.new ≡ over (square_bytes K.ops maxval pad side wide high codes.now) out.old }
 {
-    let at = put_rows(out, p, codes, wide, high, side, pad, maxval);
-    put_same(out, at, pad, (side - high) * side, maxval)
+    let end = put_rows(out, codes, wide, high, side, pad, maxval);
+    end + put_same(&mut out[end..], pad, (side - high) * side, maxval)
 }
 
 /// Writes the file of a square of the picture at the start of the buffer: tile (column, row) starts at (column × side, row × side), and is padded right and below as an embedding that names no ground. Answers how many bytes it has. The work buffer holds the codes of the part inside the picture.
@@ -90,25 +83,18 @@ pub fn write_tile<P: Picture>(
     ensures { Tiled P.Pixel.ops P.model P.count picture.old column row side work.old out.old result picture.new work.new out.new }
 {
     let size = picture.size();
-    let part = match visible(size, column, row, side) {
-        Some(part) => part,
-        None => return Err(Refusal::NoTile),
-    };
+    let part = visible(size, column, row, side).ok_or(Refusal::NoTile)?;
     let square = side as usize * side as usize;
     let bytes = header_bytes(side, side, size.maxval)
         + square * pixel_bytes::<P::Pixel>(size.maxval);
     if work.len() < part.area() || out.len() < bytes {
         return Err(Refusal::BufferTooShort);
     }
-    match picture.prepare(part, work) {
-        Ok(()) => {}
-        Err(refusal) => return Err(refusal),
-    }
-    let head = put_header(out, <P::Pixel as Kind>::mark(), side, side, size.maxval);
+    picture.prepare(part, work)?;
+    let head = put_header(out, P::Pixel::mark(), side, side, size.maxval);
     let pad = padding::<P::Pixel>(size.maxval);
-    let _end = put_square(
-        out,
-        head,
+    put_square(
+        &mut out[head..],
         work,
         part.width as usize,
         part.height as usize,

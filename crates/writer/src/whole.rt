@@ -7,23 +7,22 @@ ghost use Rattle.writer.specs.Calls.{ending, outcome_of, amount, end_outcome, fi
 ghost use Rattle.writer.specs.Whole.{Filed};
 
 use crate::header::header_bytes;
-use crate::layout::pixel_bytes;
 use crate::row_writer::RowWriter;
 use crate::rows::begin;
 use picture::{Picture, Refusal};
-use pixel::Kind;
+use pixel::{Kind, pixel_bytes};
 
-/// Writes all rows behind the header, by strips of this height, and ends the writer; answers the place behind them.
+/// Writes all rows behind the header, by strips of this height; answers the place behind them.
 fn put_strips<P: Picture>(
-    mut writer: RowWriter,
+    writer: &mut RowWriter,
     picture: &mut P,
     height: u32,
     work: &mut [u64],
     out: &mut [u8],
     head: usize,
 ) -> Result<usize, Refusal>
-    requires fits { fits P.Pixel.ops (P.model picture.old).shown writer ≡ true }
-    requires begun { writer.next ≡ 0 }
+    requires fits { fits P.Pixel.ops (P.model picture.old).shown writer.old ≡ true }
+    requires begun { writer.old.next ≡ 0 }
     requires some { 1 ≤ height }
     requires codes { (P.model picture.old).shown.width * min height (P.model picture.old).shown.height ≤ length work.old }
     requires room { head + (P.model picture.old).shown.width * (P.model picture.old).shown.height * pixel_width P.Pixel.ops (P.model picture.old).shown.maxval ≤ length out.old }
@@ -33,21 +32,9 @@ fn put_strips<P: Picture>(
 {
     let mut end = head;
     while writer.next < writer.size.height {
-        match writer.strip(picture, height, work, &mut out[end..]) {
-            Ok(bytes) => end += bytes,
-            Err(refusal) => {
-                writer.abandon();
-                return Err(refusal);
-            }
-        }
+        end += writer.strip(picture, height, work, &mut out[end..])?;
     }
-    match writer.finish() {
-        Ok(()) => Ok(end),
-        Err(refused) => {
-            refused.back.abandon();
-            Err(refused.refusal)
-        }
-    }
+    Ok(end)
 }
 
 /// Writes the whole file of a picture at the start of the buffer, by strips of this height; answers how many bytes it has.
@@ -69,11 +56,8 @@ pub fn write_file<P: Picture>(
     if work.len() < wide * height.min(size.height) as usize || out.len() < bytes {
         return Err(Refusal::BufferTooShort);
     }
-    match begin(picture, out) {
-        Ok(begun) => {
-            let (head, writer) = begun;
-            put_strips(writer, picture, height, work, out, head)
-        }
-        Err(refusal) => Err(refusal),
-    }
+    let (head, mut writer) = begin(picture, out)?;
+    let end = put_strips(&mut writer, picture, height, work, out, head);
+    writer.abandon();
+    end
 }

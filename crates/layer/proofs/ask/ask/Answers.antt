@@ -13,5 +13,4 @@ returns-in-Ok g c =
       shown = λ z. asked_shown o i c.args.at _ _ c.requires.inside c.requires.room none c.prepare.ensures.fills;
       keeps = c.prepare.ensures.keeps;
       counts = c.prepare.ensures.counts;
-      sound = c.prepare.ensures.stays;
     }

@@ -15,7 +15,6 @@ ask-requires g c =
     let w : l.at.width ≤ l.columns = omega (arith, c.requires.lens.wide) in
     let h : l.at.height ≤ l.rows = omega (arith, c.requires.lens.high) in
     record {
-      sound = c.requires.sound;
       inside = c.requires.inside;
       room = omega (arith, mul-le l.at.width l.at.height l.columns l.rows w h, c.requires.lens.few.few, c.requires.room);
     }
@@ -53,7 +52,6 @@ returns-in-Ok g c =
           ∙ ap (located o) (sym (mixed_pixel o b g.met.P.Pixel.Kind.decodes l w c.args.scale c.args.offset c.ask.new.codes 0 0 φ (c.ask.ensures.shown c.in-Ok.is) m));
       keeps = c.ask.ensures.keeps;
       counts = c.ask.ensures.counts;
-      sound = c.ask.ensures.sound;
     }
 
 pub returns-in-Err : goal.returns-in-Err
@@ -68,5 +66,4 @@ returns-in-Err g c =
           (fault_of_err _ c.in-Err.fault c.in-Err.ensures.answer)));
       keeps = c.ask.ensures.keeps;
       counts = c.ask.ensures.counts;
-      sound = c.ask.ensures.sound;
     }

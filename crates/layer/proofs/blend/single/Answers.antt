@@ -13,7 +13,6 @@ returns-in-Ok g c =
           single_shown o b c.args.carry.at _ _ c.requires.one p.1 (c.ask.ensures.shown c.in-Ok.is) ∙ ap (located o) (sym p.0);
       keeps = c.ask.ensures.keeps;
       counts = c.ask.ensures.counts;
-      sound = c.ask.ensures.sound;
     }
 
 pub returns-in-Err : goal.returns-in-Err
@@ -25,5 +24,4 @@ returns-in-Err g c =
           single_hole o b c.args.carry.at _ _ c.requires.one p.1 c.in-Err.ensures.answer ∙ ap (located o) (sym p.0);
       keeps = c.ask.ensures.keeps;
       counts = c.ask.ensures.counts;
-      sound = c.ask.ensures.sound;
     }

@@ -15,7 +15,6 @@ returns-in-Ok g c = record {
   rest = c.lay.ensures.rest;
   keeps = c.ask.ensures.keeps;
   counts = (1, c.ask.ensures.counts);
-  sound = c.ask.ensures.sound;
 }
 
 pub returns-in-Err : goal.returns-in-Err
@@ -25,5 +24,4 @@ returns-in-Err g c = record {
   rest = refl;
   keeps = c.ask.ensures.keeps;
   counts = (1, c.ask.ensures.counts);
-  sound = c.ask.ensures.sound;
 }

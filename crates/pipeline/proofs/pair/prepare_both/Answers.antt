@@ -9,8 +9,8 @@ returns g c = record {
   answered_second = c.prepare-two.ensures.answered;
   alike =
       agree g.P.Pixel.Kind.ops
-      g.P.Picture.model g.P.Picture.count g.P.Picture.sound g.P.Picture.bare
-      g.Q.Picture.model g.Q.Picture.count g.Q.Picture.sound g.Q.Picture.bare
+      g.P.Picture.model g.P.Picture.count g.P.Picture.bare
+      g.Q.Picture.model g.Q.Picture.count g.Q.Picture.bare
       g.met.P.Picture.composed g.met.Q.Picture.composed
       _ _ _ _ _ _ _ _ _ _ _ c.prepare-one.ensures.prepared c.prepare-two.ensures.prepared;
 }

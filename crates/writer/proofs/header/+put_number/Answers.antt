@@ -1,12 +1,12 @@
 use Rattle.std.proofs.Common.{◌+◌, ◌/◌, ◌%◌, ◌^◌, ◌<◌, decimal, sym, ap, ◌∙◌, arith}
 use Rattle.std.proofs.lemmas.Fmt.{decimal_digit}
-use Rattle.writer.specs.Layout.{pasted}
+use Rattle.writer.specs.Calls.{over}
 use Rattle.writer.proofs.Figures.{step, length-step, length_digit}
-use Rattle.writer.proofs.Paste.{pasted_one, pasted_push}
+use Rattle.writer.proofs.Paste.{over_one, over_push}
 use Rattle.writer.proofs.header.+put_number.Goals as goal
 
-pub bounds-out-p : goal.bounds-out-p
-bounds-out-p t c = omega (arith, length_digit c.args.n c.if-n-lt10.true)
+pub bounds-out-0 : goal.bounds-out-0
+bounds-out-0 t c = omega (arith, length_digit c.args.n c.if-n-lt10.true)
 
 pub put_number-end-requires : goal.put_number-end-requires
 put_number-end-requires t c = let f : c.args.n < 2 ^ 32 = omega (arith, c.ranges.n) in omega (arith, length-step c.args.n c.if-n-lt10.false f)
@@ -14,15 +14,15 @@ put_number-end-requires t c = let f : c.args.n < 2 ^ 32 = omega (arith, c.ranges
 pub bounds-out-end : goal.bounds-out-end
 bounds-out-end t c = let f : c.args.n < 2 ^ 32 = omega (arith, c.ranges.n) in omega (arith, length-step c.args.n c.if-n-lt10.false f, c.put_number-end.ensures.end, c.put_number-end.auto.out)
 
-pub overflow_add-result-else-n-lt10 : goal.overflow_add-result-else-n-lt10
-overflow_add-result-else-n-lt10 t c = let f : c.args.n < 2 ^ 32 = omega (arith, c.ranges.n) in omega (arith, length-step c.args.n c.if-n-lt10.false f, c.put_number-end.ensures.end, c.put_number-end.auto.out)
+pub overflow_add-result : goal.overflow_add-result
+overflow_add-result t c = let f : c.args.n < 2 ^ 32 = omega (arith, c.ranges.n) in omega (arith, length-step c.args.n c.if-n-lt10.false f, c.put_number-end.ensures.end, c.put_number-end.auto.out)
 
 pub returns-then-n-lt10 : goal.returns-then-n-lt10
 returns-then-n-lt10 t c =
     let l = length_digit c.args.n c.if-n-lt10.true in
     record {
       end = omega arith;
-      out = pasted_one c.args.out.now c.args.p (48 + c.args.n) (omega arith) ∙ ap (pasted c.args.out.now c.args.p) (sym (decimal_digit c.args.n c.if-n-lt10.true));
+      out = over_one c.args.out.now (48 + c.args.n) (omega arith) ∙ ap (λ b. over b c.args.out.now) (sym (decimal_digit c.args.n c.if-n-lt10.true));
     }
 
 pub returns-else-n-lt10 : goal.returns-else-n-lt10
@@ -31,7 +31,7 @@ returns-else-n-lt10 t c =
     let l = length-step c.args.n c.if-n-lt10.false f in
     record {
       end = omega (arith, c.put_number-end.ensures.end);
-      out = pasted_push c.args.out.now c.put_number-end.new.out c.args.p (decimal (c.args.n / 10)) c.put_number-end.result (48 + c.args.n % 10)
+      out = over_push c.args.out.now c.put_number-end.new.out (decimal (c.args.n / 10)) c.put_number-end.result (48 + c.args.n % 10)
           c.put_number-end.ensures.out (sym c.put_number-end.ensures.end) (omega (arith, c.put_number-end.ensures.end))
-          ∙ ap (pasted c.args.out.now c.args.p) (sym (step c.args.n c.if-n-lt10.false f));
+          ∙ ap (λ b. over b c.args.out.now) (sym (step c.args.n c.if-n-lt10.false f));
     }

@@ -1,29 +1,30 @@
-use Rattle.std.proofs.Common.{◌≡◌, ◌+◌, ◌*◌, ◌<◌, length, get_or, Option, sym, ap, ◌∙◌, subst, zero-mul, arith}
+use Rattle.std.proofs.Common.{◌≡◌, ◌-◌, ◌*◌, ◌<◌, length, get_or, take, drop, Option, sym, refl, ap, ◌∙◌, subst, zero-mul, arith}
 use Rattle.std.specs.List.{range_with_len, flat_map}
 use Rattle.writer.specs.File.{pixel_width}
-use Rattle.writer.specs.Layout.{pasted, code_bytes, decoded_bytes, Known}
-use Rattle.writer.proofs.Paste.{pasted-none}
-use Rattle.writer.proofs.Joins.{length-code_bytes, times_more, room, pasted_turn, by_place}
+use Rattle.writer.specs.Layout.{code_bytes, decoded_bytes, Known}
+use Rattle.writer.proofs.Joins.{length-code_bytes, times_more, room, over_turn, by_place}
+use Rattle.writer.specs.Calls.{over}
+use Rattle.writer.proofs.Paste.{length-behind}
 use Rattle.writer.proofs.layout.put_codes.Goals as goal
 use Rattle.writer.proofs.layout.put_codes.Goals.{in-Some, in_default}
 
-pub put_pixel-at-requires : goal.put_pixel-at-requires
-put_pixel-at-requires g c =
-    let h : c.loop-k.k < length c.args.codes.now = omega arith in
+pub put_pixel-end-requires : goal.put_pixel-end-requires
+put_pixel-end-requires g c =
+    let h : c.loop-code.code-index < length c.args.codes.now = omega arith in
     let D : Option g.row.K.Denot → Type 0 = Known g.K.Kind.ops c.args.maxval in
     record {
-      room = omega (arith, room c.loop-k.k (length c.args.codes.now) (pixel_width g.K.Kind.ops c.args.maxval) h);
-      under = subst D (sym c.decode.ensures ∙ c.in-Some.is) (c.requires.known c.loop-k.k h);
+      room = omega (arith, room c.loop-code.code-index (length c.args.codes.now) (pixel_width g.K.Kind.ops c.args.maxval) h, length-behind c.loop-code.out c.loop-code.end);
+      under = subst D (sym c.decode.ensures ∙ c.in-Some.is) (c.requires.known c.loop-code.code-index h);
     }
 
-pub loop-k-init : goal.loop-k-init
-loop-k-init g c = (omega (arith, zero-mul (pixel_width g.K.Kind.ops c.args.maxval)), sym (pasted-none c.args.out.now c.args.p))
+pub loop-code-init : goal.loop-code-init
+loop-code-init g c = (sym (zero-mul (pixel_width g.K.Kind.ops c.args.maxval)), refl)
 
-pub loop-k-preserved : goal.loop-k-preserved
-loop-k-preserved g c =
+pub loop-code-preserved : goal.loop-code-preserved
+loop-code-preserved g c =
     let o = g.K.Kind.ops in
     let m = c.args.maxval in
-    let k = c.loop-k.k in
+    let k = c.loop-code.code-index in
     let cs = c.args.codes.now in
     let n = pixel_width o m in
     let h : k < length cs = omega arith in
@@ -31,11 +32,12 @@ loop-k-preserved g c =
     elim c.match-decode.branch [
       | in-Some w ↦
           let d : o.decode (get_or cs k 0) ≡ _ = sym c.decode.ensures ∙ w.in-Some.is in
-          let at : c.match-decode.at ≡ c.args.p + (k + 1) * n = omega (arith, times_more k n, w.at-is, w.put_pixel-at.ensures.end, c.loop-k.invariant.0) in (
-            at,
-            pasted_turn (λ j. code_bytes o m (get_or cs j 0)) n (λ j. length-code_bytes o g.met.K.Kind.deep m (get_or cs j 0)) c.args.out.now c.loop-k.out c.match-decode.out
-                c.args.p k c.loop-k.at c.loop-k.invariant.0 (omega (arith, c.requires.room, c.loop-k.invariant.0)) c.loop-k.invariant.1
-                (w.out-is ∙ w.put_pixel-at.ensures.out ∙ ap (λ x. pasted c.loop-k.out c.loop-k.at (decoded_bytes o m x)) (sym d)),
+          let rest = take (length c.loop-code.out - c.loop-code.end) (drop c.loop-code.end c.loop-code.out) in (
+            omega (arith, times_more k n, w.end-is, w.put_pixel-end.ensures.end, c.loop-code.invariant.0),
+            w.out-is
+                ∙ over_turn (λ j. code_bytes o m (get_or cs j 0)) n (λ j. length-code_bytes o g.met.K.Kind.deep m (get_or cs j 0)) c.args.out.now c.loop-code.out w.put_pixel-end.new.out
+                k c.loop-code.end c.loop-code.invariant.0 (omega (arith, c.requires.room, c.loop-code.invariant.0)) c.loop-code.invariant.1
+                (w.put_pixel-end.ensures.out ∙ ap (λ x. over (decoded_bytes o m x) rest) (sym d)),
           )
       | in_default w ↦
           let D : Option g.row.K.Denot → Type 0 = Known o m in
@@ -47,8 +49,8 @@ returns g c =
     let o = g.K.Kind.ops in
     let m = c.args.maxval in
     let cs = c.args.codes.now in
-    let e : c.loop-k.k ≡ length cs = omega arith in
+    let e : c.loop-code.code-index ≡ length cs = omega arith in
     record {
-      end = c.loop-k.invariant.0 ∙ ap (λ j. c.args.p + j * pixel_width o m) e;
-      out = c.loop-k.invariant.1 ∙ ap (pasted c.args.out.now c.args.p) (ap (λ n. flat_map (λ j. code_bytes o m (get_or cs j 0)) (range_with_len 0 n)) e ∙ by_place (code_bytes o m) cs);
+      end = c.loop-code.invariant.0 ∙ ap (λ j. j * pixel_width o m) e;
+      out = c.loop-code.invariant.1 ∙ ap (λ b. over b c.args.out.now) (ap (λ n. flat_map (λ j. code_bytes o m (get_or cs j 0)) (range_with_len 0 n)) e ∙ by_place (code_bytes o m) cs);
     }

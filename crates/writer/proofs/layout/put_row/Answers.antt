@@ -2,19 +2,19 @@ use Rattle.std.proofs.Common.{◌-◌, length, arith}
 use Rattle.std.specs.List.{flat_map}
 use Rattle.writer.specs.File.{pixel_width, pixel_bytes}
 use Rattle.writer.specs.Layout.{repeated, code_bytes}
-use Rattle.writer.proofs.Paste.{pasted-next}
+use Rattle.writer.proofs.Paste.{over_next, length-behind}
 use Rattle.writer.proofs.Joins.{length-joined, length_parts, length-code_bytes, length-pixel_bytes, times_split}
 use Rattle.writer.proofs.layout.put_row.Goals as goal
 
-pub put_codes-at-requires : goal.put_codes-at-requires
-put_codes-at-requires g c = record {
+pub put_codes-end-requires : goal.put_codes-end-requires
+put_codes-end-requires g c = record {
   room = omega (arith, times_split (length c.args.codes.now) c.args.side (pixel_width g.K.Kind.ops c.args.maxval) c.requires.within);
   known = c.requires.known;
 }
 
 pub put_same-requires : goal.put_same-requires
 put_same-requires g c = record {
-  room = omega (arith, times_split (length c.args.codes.now) c.args.side (pixel_width g.K.Kind.ops c.args.maxval) c.requires.within);
+  room = omega (arith, times_split (length c.args.codes.now) c.args.side (pixel_width g.K.Kind.ops c.args.maxval) c.requires.within, length-behind c.put_codes-end.new.out c.put_codes-end.result);
   under = c.requires.under;
 }
 
@@ -28,6 +28,6 @@ returns g c =
     let r = length_parts (λ k. pixel_bytes o m c.args.pad) (pixel_width o m) 0 (c.args.side - length cs) (λ k. length-pixel_bytes o g.met.K.Kind.deep m c.args.pad) in
     record {
       end = omega arith;
-      out = pasted-next c.args.out.now c.put_codes-at.new.out c.put_same.new.out c.args.p (flat_map (code_bytes o m) cs) (repeated (pixel_bytes o m c.args.pad) (c.args.side - length cs))
-          c.put_codes-at.result c.put_codes-at.ensures.out c.put_same.ensures.out (omega arith) (omega arith);
+      out = over_next c.args.out.now c.put_codes-end.new.out c.put_same.new.out (flat_map (code_bytes o m) cs) (repeated (pixel_bytes o m c.args.pad) (c.args.side - length cs))
+          c.put_codes-end.result c.put_codes-end.ensures.out (omega arith) (omega arith) c.put_same.ensures.out;
     }

@@ -1,13 +1,14 @@
-use Rattle.std.proofs.Common.{◌≡◌, ℕ, ◌+◌, ◌-◌, ◌*◌, ◌<◌, ◌≤◌, length, get_or, take, drop, sym, ap, ◌∙◌, subst, zero-mul, arith, rules}
+use Rattle.std.proofs.Common.{◌≡◌, ℕ, ◌+◌, ◌-◌, ◌*◌, ◌<◌, ◌≤◌, length, get_or, take, drop, sym, refl, ap, ◌∙◌, subst, zero-mul, arith, rules}
 use Rattle.std.proofs.lemmas.List.{get_or-take, get_or-drop}
 use Rattle.writer.specs.File.{pixel_width}
-use Rattle.writer.specs.Layout.{pasted, row_bytes, Known}
-use Rattle.writer.proofs.Paste.{pasted-none}
-use Rattle.writer.proofs.Joins.{times_more, room, pasted_turn, length-row_bytes, short}
+use Rattle.writer.specs.Layout.{row_bytes, Known}
+use Rattle.writer.proofs.Joins.{times_more, room, over_turn, length-row_bytes, short}
+use Rattle.writer.specs.Calls.{over}
+use Rattle.writer.proofs.Paste.{length-behind}
 use Rattle.writer.proofs.layout.put_rows.Goals as goal
 
 pub loop-j-init : goal.loop-j-init
-loop-j-init g c = (omega (arith, zero-mul (c.args.side * pixel_width g.K.Kind.ops c.args.maxval)), sym (pasted-none c.args.out.now c.args.p))
+loop-j-init g c = (sym (zero-mul (c.args.side * pixel_width g.K.Kind.ops c.args.maxval)), refl)
 
 -- the end of the row is within the codes
 row_in : (j high wide len : ℕ) → j < high → high * wide ≤ len → j * wide + wide ≤ len
@@ -23,11 +24,17 @@ offset_bounds-codes-j g c =
     let h : c.loop-j.j * c.args.wide + c.args.wide ≤ length c.args.codes.now = row_in c.loop-j.j c.args.high c.args.wide (length c.args.codes.now) c.loop-j-test.true c.requires.codes in
     search rules
 
-pub slice_bounds-put_row-end : goal.slice_bounds-put_row-end
-slice_bounds-put_row-end g c = row_in c.loop-j.j c.args.high c.args.wide (length c.args.codes.now) c.loop-j-test.true c.requires.codes
+pub slice_bounds-put_row-end-in-loop-j : goal.slice_bounds-put_row-end-in-loop-j
+slice_bounds-put_row-end-in-loop-j g c = row_in c.loop-j.j c.args.high c.args.wide (length c.args.codes.now) c.loop-j-test.true c.requires.codes
 
-pub put_row-at-requires : goal.put_row-at-requires
-put_row-at-requires g c =
+pub overflow_add-end : goal.overflow_add-end
+overflow_add-end g c =
+    let n = c.args.side * pixel_width g.K.Kind.ops c.args.maxval in
+    let h : c.loop-j.end + c.put_row-end.result ≤ length c.args.out.now = omega (arith, room c.loop-j.j c.args.high n c.loop-j-test.true) in
+    search rules
+
+pub put_row-end-requires : goal.put_row-end-requires
+put_row-end-requires g c =
     let o = g.K.Kind.ops in
     let j = c.loop-j.j in
     let wide = c.args.wide in
@@ -38,7 +45,7 @@ put_row-at-requires g c =
     let r = room j c.args.high wide c.loop-j-test.true in
     record {
       within = omega (arith, c.requires.within);
-      room = omega (arith, room j c.args.high (c.args.side * pixel_width o c.args.maxval) c.loop-j-test.true);
+      room = omega (arith, room j c.args.high (c.args.side * pixel_width o c.args.maxval) c.loop-j-test.true, length-behind c.loop-j.out c.loop-j.end);
       known = λ k h.
           let l : k < wide = omega arith in
           let e : get_or (take n (drop (j * wide) cs)) k 0 ≡ get_or cs (j * wide + k) 0 = get_or-take n (drop (j * wide) cs) k 0 (omega arith) ∙ get_or-drop (j * wide) cs k 0 in
@@ -57,8 +64,9 @@ loop-j-preserved g c =
     let n = side * pixel_width o m in
     let nw : j * wide + wide - j * wide ≡ wide = omega arith in (
       omega (arith, times_more j n),
-      pasted_turn (λ i. row_bytes o m c.args.pad side (take wide (drop (i * wide) cs))) n
+      over_turn (λ i. row_bytes o m c.args.pad side (take wide (drop (i * wide) cs))) n
           (λ i. length-row_bytes o g.met.K.Kind.deep m c.args.pad side (take wide (drop (i * wide) cs)) (omega (arith, short wide (i * wide) cs, c.requires.within)))
-          c.args.out.now c.loop-j.out c.put_row-at.new.out c.args.p j c.loop-j.at c.loop-j.invariant.0 (omega (arith, room j c.args.high n c.loop-j-test.true)) c.loop-j.invariant.1
-          (c.put_row-at.ensures.out ∙ ap (λ (k : ℕ). pasted c.loop-j.out c.loop-j.at (row_bytes o m c.args.pad side (take k (drop (j * wide) cs)))) nw),
+          c.args.out.now c.loop-j.out c.put_row-end.new.out j c.loop-j.end c.loop-j.invariant.0 (omega (arith, room j c.args.high n c.loop-j-test.true)) c.loop-j.invariant.1
+          (c.put_row-end.ensures.out
+          ∙ ap (λ (k : ℕ). over (row_bytes o m c.args.pad side (take k (drop (j * wide) cs))) (take (length c.loop-j.out - c.loop-j.end) (drop c.loop-j.end c.loop-j.out))) nw),
     )

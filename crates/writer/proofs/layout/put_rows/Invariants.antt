@@ -1,9 +1,10 @@
-use Rattle.std.proofs.Common.{◌≡◌, ◌+◌, ◌*◌}
+use Rattle.std.proofs.Common.{◌≡◌, ◌*◌}
 use Rattle.writer.specs.File.{pixel_width}
-use Rattle.writer.specs.Layout.{pasted, rows_bytes}
+use Rattle.writer.specs.Layout.{rows_bytes}
+use Rattle.writer.specs.Calls.{over}
 use Rattle.writer.proofs.layout.put_rows.Given as goal
 
 abbrev pub invariant-loop-j : goal.invariant-loop-j
 invariant-loop-j g l =
-    (l.at ≡ l.p + l.j * (l.side * pixel_width g.K.Kind.ops l.maxval))
-    × (l.out ≡ pasted l.initial.out l.p (rows_bytes g.K.Kind.ops l.maxval l.pad l.side l.wide l.codes l.j))
+    (l.end ≡ l.j * (l.side * pixel_width g.K.Kind.ops l.maxval))
+    × (l.out ≡ over (rows_bytes g.K.Kind.ops l.maxval l.pad l.side l.wide l.codes l.j) l.initial.out)

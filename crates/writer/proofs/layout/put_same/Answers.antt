@@ -1,29 +1,29 @@
-use Rattle.std.proofs.Common.{◌<◌, sym, zero-mul, arith}
+use Rattle.std.proofs.Common.{◌<◌, sym, refl, zero-mul, arith}
 use Rattle.writer.specs.File.{pixel_width, pixel_bytes}
-use Rattle.writer.proofs.Paste.{pasted-none}
-use Rattle.writer.proofs.Joins.{length-pixel_bytes, times_more, room, pasted_turn}
+use Rattle.writer.proofs.Joins.{length-pixel_bytes, times_more, room, over_turn}
+use Rattle.writer.proofs.Paste.{length-behind}
 use Rattle.writer.proofs.layout.put_same.Goals as goal
 
-pub put_pixel-at-requires : goal.put_pixel-at-requires
-put_pixel-at-requires g c =
-    let h : c.loop-k._k < c.args.count = omega arith in
+pub put_pixel-end-requires : goal.put_pixel-end-requires
+put_pixel-end-requires g c =
+    let h : c.loop.counter < c.args.count = omega arith in
     record {
-      room = omega (arith, room c.loop-k._k c.args.count (pixel_width g.K.Kind.ops c.args.maxval) h);
+      room = omega (arith, room c.loop.counter c.args.count (pixel_width g.K.Kind.ops c.args.maxval) h, length-behind c.loop.out c.loop.end);
       under = c.requires.under;
     }
 
-pub loop-k-init : goal.loop-k-init
-loop-k-init g c = (omega (arith, zero-mul (pixel_width g.K.Kind.ops c.args.maxval)), sym (pasted-none c.args.out.now c.args.p))
+pub loop-init : goal.loop-init
+loop-init g c = (sym (zero-mul (pixel_width g.K.Kind.ops c.args.maxval)), refl)
 
-pub loop-k-preserved : goal.loop-k-preserved
-loop-k-preserved g c =
+pub loop-preserved : goal.loop-preserved
+loop-preserved g c =
     let o = g.K.Kind.ops in
     let m = c.args.maxval in
-    let k = c.loop-k._k in
+    let k = c.loop.counter in
     let n = pixel_width o m in
     let h : k < c.args.count = omega arith in
     let r = room k c.args.count n h in (
       omega (arith, times_more k n),
-      pasted_turn (λ j. pixel_bytes o m c.args.pixel) n (λ j. length-pixel_bytes o g.met.K.Kind.deep m c.args.pixel) c.args.out.now c.loop-k.out c.put_pixel-at.new.out
-          c.args.p k c.loop-k.at c.loop-k.invariant.0 (omega arith) c.loop-k.invariant.1 c.put_pixel-at.ensures.out,
+      over_turn (λ j. pixel_bytes o m c.args.pixel) n (λ j. length-pixel_bytes o g.met.K.Kind.deep m c.args.pixel) c.args.out.now c.loop.out c.put_pixel-end.new.out
+          k c.loop.end c.loop.invariant.0 (omega arith) c.loop.invariant.1 c.put_pixel-end.ensures.out,
     )

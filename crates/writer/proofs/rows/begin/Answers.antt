@@ -1,8 +1,6 @@
 use Rattle.std.proofs.Common.{◌≡◌, ℕ, length, refl, ap, ◌∙◌}
-use Rattle.writer.specs.File.{header, header_of}
-use Rattle.writer.specs.Layout.{pasted}
-use Rattle.writer.specs.Calls.{Opened}
-use Rattle.writer.proofs.Paste.{pasted_front}
+use Rattle.writer.specs.File.{header}
+use Rattle.writer.specs.Calls.{Opened, over}
 use Rattle.writer.proofs.Logs.{joined-file}
 use Rattle.writer.proofs.rows.begin.Goals as goal
 
@@ -18,7 +16,7 @@ returns g c =
     let e = same c.mark-mark.result o.mark z.width i.width z.height i.height z.maxval i.maxval c.mark-mark.ensures c.size-size.ensures.width c.size-size.ensures.height c.size-size.ensures.maxval in
     let b : Opened o i c.args.out.now c.put_header-bytes.result _ c.put_header-bytes.new.out = record {
       amounts = c.put_header-bytes.ensures.end ∙ ap length e;
-      writes = c.put_header-bytes.ensures.out ∙ ap (pasted c.args.out.now 0) e ∙ pasted_front c.args.out.now (header_of o i);
+      writes = c.put_header-bytes.ensures.out ∙ ap (λ b. over b c.args.out.now) e;
       width = c.size-size.ensures.width;
       height = c.size-size.ensures.height;
       maxval = c.size-size.ensures.maxval;
@@ -27,5 +25,5 @@ returns g c =
     } in
     record {
       begun = b;
-      whole = joined-file o g.P.Picture.model g.P.Picture.count g.P.Picture.sound g.P.Picture.bare g.met.P.Picture.composed c.args.picture.now c.args.out.now c.put_header-bytes.result _ c.put_header-bytes.new.out c.requires b;
+      whole = joined-file o g.P.Picture.model g.P.Picture.count g.P.Picture.bare g.met.P.Picture.composed c.args.picture.now c.args.out.now c.put_header-bytes.result _ c.put_header-bytes.new.out b;
     }

@@ -4,9 +4,10 @@ use Rattle.picture.specs.Images.{Model}
 use Rattle.writer.specs.File.{place_of, pixel_width, reading}
 use Rattle.writer.specs.Layout.{pasted}
 use Rattle.writer.specs.declared.row_writer.RowWriter.{RowWriter}
-use Rattle.writer.specs.Calls.{ending, end_outcome, rows_of}
+use Rattle.writer.specs.Calls.{ending, outcome_of, end_outcome, rows_of}
 use Rattle.picture.specs.declared.fault.Refusal.{Refusal}
 use Rattle.picture.specs.Refusals.{told, done}
+use Rattle.std.proofs.lemmas.Result.{err_from_is_err_and}
 use borrow.Rule.Slice.PartMut.{put_mid}
 use Rattle.writer.proofs.whole.put_strips.Given as given
 use Rattle.writer.proofs.Paste.{pasted-none}
@@ -24,10 +25,9 @@ pub loop-writer-init : goal.loop-writer-init
 loop-writer-init g c =
     let o = g.P.Pixel.Kind.ops in
     let i = (g.P.Picture.model c.args.picture.now).shown in
-    let w = c.args.writer in
+    let w = c.args.writer.now in
     let n : i.width * w.next ≡ 0 = ap (λ k. i.width * k) c.requires.begun ∙ mul-zero i.width in (
       refl,
-      c.requires.sound,
       record {
         fit = c.requires.fits;
         room = c.requires.room;
@@ -39,17 +39,17 @@ loop-writer-init g c =
     )
 
 pub slice_bounds-strip-count : goal.slice_bounds-strip-count
-slice_bounds-strip-count g c = wholes.end_in g.P.Pixel.Kind.ops (g.P.Picture.model c.args.picture.now).shown c.loop-writer.writer c.args.head c.loop-writer.end c.args.out.now c.loop-writer.out c.loop-writer.invariant.2
+slice_bounds-strip-count g c = wholes.end_in g.P.Pixel.Kind.ops (g.P.Picture.model c.args.picture.now).shown c.loop-writer.writer c.args.head c.loop-writer.end c.args.out.now c.loop-writer.out c.loop-writer.invariant.1
 
 pub slice_bounds-strip-start : goal.slice_bounds-strip-start
 slice_bounds-strip-start g c =
-    let h = wholes.end_in g.P.Pixel.Kind.ops (g.P.Picture.model c.args.picture.now).shown c.loop-writer.writer c.args.head c.loop-writer.end c.args.out.now c.loop-writer.out c.loop-writer.invariant.2 in
+    let h = wholes.end_in g.P.Pixel.Kind.ops (g.P.Picture.model c.args.picture.now).shown c.loop-writer.writer c.args.head c.loop-writer.end c.args.out.now c.loop-writer.out c.loop-writer.invariant.1 in
     search rules
 
 -- a strip that was answered
-went : (g : given.Over) (c : goal.In-Ok g)
+went : (g : given.Over) (c : goal.In_ok-end g)
     → (c.strip.new.self.next ≡ c.loop-writer.writer.next + rows_of c.loop-writer.writer c.args.height)
-    × wholes.Far g.P.Pixel.Kind.ops (g.P.Picture.model c.args.picture.now).shown c.strip.new.self c.args.head (c.loop-writer.end + c.in-Ok.bytes) c.args.out.now
+    × wholes.Far g.P.Pixel.Kind.ops (g.P.Picture.model c.args.picture.now).shown c.strip.new.self c.args.head (c.loop-writer.end + c.in_ok-end.field-0) c.args.out.now
     (put_mid c.loop-writer.end (length c.loop-writer.out - c.loop-writer.end) c.loop-writer.out c.strip.new.out)
 went g c =
     let o = g.P.Pixel.Kind.ops in
@@ -58,59 +58,61 @@ went g c =
     let end = c.loop-writer.end in
     let out = c.loop-writer.out in
     let part = take (length out - end) (drop end out) in
-    let x = c.in-Ok.ensures in
+    let x = c.in_ok-end.ensures in
     let e : (g.P.Picture.model c.loop-writer.picture).shown ≡ i = ap (λ (m : Model g.row.P-Pixel.Denot). m.shown) c.loop-writer.invariant.0 in
-    wholes.turn_wrote o i v c.args.head end c.args.out.now out c.loop-writer.invariant.2 c.args.height (length c.loop-writer.work) part c.loop-writer-test.true c.requires.some
-    (let h = c.loop-writer.auto.work in let k = c.requires.codes in omega arith) (behind_long out end) g.met.P.Pixel.Kind.deep c.in-Ok.bytes c.strip.new.self c.strip.new.out
-    (wholes.turned o g.P.Picture.model g.P.Picture.count g.P.Picture.sound i c.loop-writer.picture c.args.height v c.loop-writer.work part (Ok c.in-Ok.bytes) c.strip.new.picture c.strip.new.self
+    wholes.turn_wrote o i v c.args.head end c.args.out.now out c.loop-writer.invariant.1 c.args.height (length c.loop-writer.work) part c.loop-writer-test.true c.requires.some
+    (let h = c.loop-writer.auto.work in let k = c.requires.codes in omega arith) (behind_long out end) g.met.P.Pixel.Kind.deep c.in_ok-end.field-0 c.strip.new.self c.strip.new.out
+    (wholes.turned o g.P.Picture.model g.P.Picture.count i c.loop-writer.picture c.args.height v c.loop-writer.work part (Ok c.in_ok-end.field-0) c.strip.new.picture c.strip.new.self
     c.strip.new.work c.strip.new.out e x) refl x.size x.mark
 
 pub overflow_add-end : goal.overflow_add-end
 overflow_add-end g c =
     let f = (went g c).1 in
-    let h : c.loop-writer.end + c.in-Ok.bytes ≤ length c.args.out.now =
+    let h : c.loop-writer.end + c.in_ok-end.field-0 ≤ length c.args.out.now =
     let l = f.long in
-    omega (arith, wholes.end_in g.P.Pixel.Kind.ops (g.P.Picture.model c.args.picture.now).shown c.strip.new.self c.args.head (c.loop-writer.end + c.in-Ok.bytes) c.args.out.now _ f) in
+    omega (arith, wholes.end_in g.P.Pixel.Kind.ops (g.P.Picture.model c.args.picture.now).shown c.strip.new.self c.args.head (c.loop-writer.end + c.in_ok-end.field-0) c.args.out.now _ f) in
     search rules
 
 pub loop-writer-preserved : goal.loop-writer-preserved
-loop-writer-preserved g c = (c.in-Ok.ensures.part.keeps ∙ c.loop-writer.invariant.0, c.in-Ok.ensures.part.stays, (went g c).1)
+loop-writer-preserved g c = (c.in_ok-end.ensures.part.keeps ∙ c.loop-writer.invariant.0, (went g c).1)
 
 -- fewer rows are left
 fewer : (v v' : RowWriter) (s : ℕ) → v.next < v.size.height → 1 ≤ s → v'.size ≡ v.size → v'.next ≡ v.next + rows_of v s → v'.size.height - v'.next < v.size.height - v.next
 fewer v v' s l m e n = let h : v'.size.height ≡ v.size.height = ap (λ z. z.height) e in omega arith
 
 pub loop-writer-smaller : goal.loop-writer-smaller
-loop-writer-smaller g c = fewer c.loop-writer.writer c.strip.new.self c.args.height c.loop-writer-test.true c.requires.some c.in-Ok.ensures.size (went g c).0
+loop-writer-smaller g c = fewer c.loop-writer.writer c.strip.new.self c.args.height c.loop-writer-test.true c.requires.some c.in_ok-end.ensures.size (went g c).0
 
-pub returns-in-Err : goal.returns-in-Err
-returns-in-Err g c =
+pub returns-in_err-end : goal.returns-in_err-end
+returns-in_err-end g c =
     let o = g.P.Pixel.Kind.ops in
     let i = (g.P.Picture.model c.args.picture.now).shown in
     let v = c.loop-writer.writer in
     let end = c.loop-writer.end in
     let out = c.loop-writer.out in
     let part = take (length out - end) (drop end out) in
-    let x = c.in-Err.ensures in
+    let x = c.in_err-end.ensures in
+    let t = err_from_is_err_and c.from_residual.result c.from_residual.ensures.1 in
+    let y : c.from_residual.result ≡ Err _ = t.1 ∙ ap Err t.2 in
     let e : (g.P.Picture.model c.loop-writer.picture).shown ≡ i = ap (λ (m : Model g.row.P-Pixel.Denot). m.shown) c.loop-writer.invariant.0 in
     record {
-      answers = wholes.turn_holed o i v c.args.head end c.args.out.now out c.loop-writer.invariant.2 c.args.height (length c.loop-writer.work) part c.loop-writer-test.true c.requires.some
-          (let h = c.loop-writer.auto.work in let k = c.requires.codes in omega arith) (behind_long out end) c.in-Err.refusal c.strip.new.self c.strip.new.out
-          (wholes.turned o g.P.Picture.model g.P.Picture.count g.P.Picture.sound i c.loop-writer.picture c.args.height v c.loop-writer.work part (Err c.in-Err.refusal) c.strip.new.picture
+      answers = ap outcome_of y ∙ wholes.turn_holed o i v c.args.head end c.args.out.now out c.loop-writer.invariant.1 c.args.height (length c.loop-writer.work) part c.loop-writer-test.true c.requires.some
+          (let h = c.loop-writer.auto.work in let k = c.requires.codes in omega arith) (behind_long out end) c.in_err-end.field-0.0 c.strip.new.self c.strip.new.out
+          (wholes.turned o g.P.Picture.model g.P.Picture.count i c.loop-writer.picture c.args.height v c.loop-writer.work part (Err c.in_err-end.field-0.0) c.strip.new.picture
           c.strip.new.self c.strip.new.work c.strip.new.out e x);
-      writes = λ z. absurd (not_done c.in-Err.refusal z);
+      writes = λ z. absurd (not_done c.in_err-end.field-0.0 (sym (ap outcome_of y) ∙ z));
       keeps = x.part.keeps ∙ c.loop-writer.invariant.0;
-      stays = x.part.stays;
     }
 
-pub returns-in-Ok-finish : goal.returns-in-Ok-finish
-returns-in-Ok-finish g c =
+pub returns : goal.returns
+returns g c =
     let o = g.P.Pixel.Kind.ops in
     let i = (g.P.Picture.model c.args.picture.now).shown in
-    let w = wholes.all_written o i c.loop-writer.writer c.args.head c.loop-writer.end c.args.out.now c.loop-writer.out c.loop-writer.invariant.2 g.met.P.Pixel.Kind.deep c.in-Ok-finish.ensures in
+    let v = c.loop-writer.writer in
+    let z = v.within in
+    let w = wholes.all_written o i v c.args.head c.loop-writer.end c.args.out.now c.loop-writer.out c.loop-writer.invariant.1 g.met.P.Pixel.Kind.deep (let h = c.loop-writer-test.false in omega arith) in
     record {
       answers = ap (λ z. end_outcome (ending None z)) (sym w.0);
       writes = λ z. (w.1, w.2);
       keeps = c.loop-writer.invariant.0;
-      stays = c.loop-writer.invariant.1;
     }

@@ -24,8 +24,8 @@ module _ {K S : Type 0} (o : Ops K S) (i : Image K) (z : Size) (ew : z.width ≡
 
 pub returns-then-height-eq0 : goal.returns-then-height-eq0
 returns-then-height-eq0 g c =
-    wholes.early_filed g.P.Pixel.Kind.ops g.P.Picture.model g.P.Picture.count g.P.Picture.sound c.args.picture.now c.args.height c.args.work.now c.args.out.now 15 NoRows
-    (wholes.end_zero g.P.Pixel.Kind.ops (g.P.Picture.model c.args.picture.now).shown c.args.height (length c.args.work.now) (length c.args.out.now) c.if-height-eq0.true) refl c.requires
+    wholes.early_filed g.P.Pixel.Kind.ops g.P.Picture.model g.P.Picture.count c.args.picture.now c.args.height c.args.work.now c.args.out.now 15 NoRows
+    (wholes.end_zero g.P.Pixel.Kind.ops (g.P.Picture.model c.args.picture.now).shown c.args.height (length c.args.work.now) (length c.args.out.now) c.if-height-eq0.true) refl
 
 pub returns-then-work-wide : goal.returns-then-work-wide
 returns-then-work-wide g c =
@@ -37,21 +37,20 @@ returns-then-work-wide g c =
     let co = codes_are o i z c.size-size.ensures.width c.size-size.ensures.height c.size-size.ensures.maxval s c.min.result c.min.ensures in
     let short : (length c.args.work.now < i.width * min s i.height) ⊎ (length c.args.out.now < file_width o i) =
     elim c.then-work-wide.either [ inl l ↦ inl (omega (arith, l)) | inr l ↦ inr (omega (arith, l.1)) ] in
-    wholes.early_filed o g.P.Picture.model g.P.Picture.count g.P.Picture.sound c.args.picture.now s c.args.work.now c.args.out.now 11 BufferTooShort
-    (wholes.end_short o i s (length c.args.work.now) (length c.args.out.now) c.if-height-eq0.false short) refl c.requires
+    wholes.early_filed o g.P.Picture.model g.P.Picture.count c.args.picture.now s c.args.work.now c.args.out.now 11 BufferTooShort
+    (wholes.end_short o i s (length c.args.work.now) (length c.args.out.now) c.if-height-eq0.false short) refl
 
-pub put_strips-requires : goal.put_strips-requires
-put_strips-requires g c =
+pub put_strips-end-requires : goal.put_strips-end-requires
+put_strips-end-requires g c =
     let o = g.P.Pixel.Kind.ops in
     let i = (g.P.Picture.model c.args.picture.now).shown in
     let z = c.size-size.result in
     let s = c.args.height in
     let by = bytes_are o i z c.size-size.ensures.width c.size-size.ensures.height c.size-size.ensures.maxval c.header_bytes.result c.pixel_bytes.result c.header_bytes.ensures.value c.pixel_bytes.ensures.value in
     let co = codes_are o i z c.size-size.ensures.width c.size-size.ensures.height c.size-size.ensures.maxval s c.min.result c.min.ensures in
-    let x = c.in-Ok.ensures.begun in
-    let w = c.in-Ok.begun.1 in
+    let x = c.in_ok-head.ensures.begun in
+    let w = c.in_ok-head.writer in
     record {
-      sound = c.requires;
       fits = and_from (eqb w.size.width i.width && eqb w.size.height i.height) (eqb w.size.maxval i.maxval && eqb w.mark o.mark)
           (and_from (eqb w.size.width i.width) (eqb w.size.height i.height) (eq-eqb _ _ x.width) (eq-eqb _ _ x.height))
           (and_from (eqb w.size.maxval i.maxval) (eqb w.mark o.mark) (eq-eqb _ _ x.maxval) (eq-eqb _ _ x.mark));
@@ -61,32 +60,32 @@ put_strips-requires g c =
       room = omega (arith, c.if-out-bytes.false, x.amounts, c.begin.auto.out);
     }
 
-pub returns-in-Ok : goal.returns-in-Ok
-returns-in-Ok g c =
+pub returns : goal.returns
+returns g c =
     let o = g.P.Pixel.Kind.ops in
     let i = (g.P.Picture.model c.args.picture.now).shown in
     let z = c.size-size.result in
     let s = c.args.height in
     let by = bytes_are o i z c.size-size.ensures.width c.size-size.ensures.height c.size-size.ensures.maxval c.header_bytes.result c.pixel_bytes.result c.header_bytes.ensures.value c.pixel_bytes.ensures.value in
     let co = codes_are o i z c.size-size.ensures.width c.size-size.ensures.height c.size-size.ensures.maxval s c.min.result c.min.ensures in
-    let x = c.in-Ok.ensures.begun in
-    wholes.filed o g.P.Picture.model g.P.Picture.count g.P.Picture.sound c.args.picture.now s c.args.work.now c.args.out.now c.put_strips.result c.put_strips.new.picture c.put_strips.new.work
-    c.put_strips.new.out (first_fault (place_of i) (i.width * i.height))
+    let x = c.in_ok-head.ensures.begun in
+    wholes.filed o g.P.Picture.model g.P.Picture.count c.args.picture.now s c.args.work.now c.args.out.now c.put_strips-end.result c.put_strips-end.new.picture c.put_strips-end.new.work
+    c.put_strips-end.new.out (first_fault (place_of i) (i.width * i.height))
     (wholes.end_room o i s (length c.args.work.now) (length c.args.out.now) c.if-height-eq0.false (omega (arith, c.if-work-wide.false)) (omega (arith, c.if-out-bytes.false)))
-    c.put_strips.ensures.answers
+    c.put_strips-end.ensures.answers
     (λ d.
-    let w = c.put_strips.ensures.writes d in
-    let long = wholes.raster_long o g.met.P.Pixel.Kind.deep i (sym d ∙ c.put_strips.ensures.answers) in (
-      wholes.file-written o i c.args.out.now c.begin.new.out c.put_strips.new.out c.in-Ok.begun.0 x.writes x.amounts w.0 (omega (arith, c.if-out-bytes.false, x.amounts)),
+    let w = c.put_strips-end.ensures.writes d in
+    let long = wholes.raster_long o g.met.P.Pixel.Kind.deep i (sym d ∙ c.put_strips-end.ensures.answers) in (
+      wholes.file-written o i c.args.out.now c.begin.new.out c.put_strips-end.new.out c.in_ok-head.head x.writes x.amounts w.0 (omega (arith, c.if-out-bytes.false, x.amounts)),
       w.1 ∙ ap (λ n. n + length (raster o i)) x.amounts ∙ sym (length-append (header_of o i) (raster o i)),
     ))
-    c.put_strips.ensures.keeps c.put_strips.ensures.stays
+    c.put_strips-end.ensures.keeps
 
-pub returns-in-Err : goal.returns-in-Err
-returns-in-Err g c =
+pub returns-in_err-head : goal.returns-in_err-head
+returns-in_err-head g c =
     let o = g.P.Pixel.Kind.ops in
     let i = (g.P.Picture.model c.args.picture.now).shown in
     let z = c.size-size.result in
     let by = bytes_are o i z c.size-size.ensures.width c.size-size.ensures.height c.size-size.ensures.maxval c.header_bytes.result c.pixel_bytes.result c.header_bytes.ensures.value c.pixel_bytes.ensures.value in
-    let x = c.in-Err.ensures.begun.0 in
+    let x = c.in_err-head.ensures.begun.0 in
     absurd (omega (arith, c.if-out-bytes.false))

@@ -16,7 +16,6 @@ returns-else-block g t c =
       laid = λ z. shows_after o _ _ c.args.whole c.args.part _ _ _ v (c.block.ensures.spared c.if-block.false) (c.exact.ensures.laid z);
       rest = c.exact.ensures.rest ∙ c.block.ensures.rest;
       kept = kept_follows o model count c.args.self.now c.block.new.self c.exact.new.self k c.exact.ensures.kept;
-      sound = c.exact.ensures.sound;
       quiet = λ n. let q = c.block.ensures.quiet n in let z : true ≡ false = sym q.0 ∙ c.if-block.false in let w : ◌≡◌ {A = ℕ} 0 1 = cc in absurd (omega arith);
     }
 
@@ -37,7 +36,6 @@ returns-then-tile g t c =
       laid = λ z. shows_beside o _ _ c.args.whole p c.rect-near.result c.rect-far.result c.in-Across.n _ _ _ v c.requires.part cut (c.tile.ensures.laid c.if-tile.true) (c.tile-then-tile.ensures.laid z);
       rest = c.tile-then-tile.ensures.rest ∙ c.tile.ensures.rest;
       kept = kept_follows o model count c.args.self.now c.tile.new.self c.tile-then-tile.new.self k c.tile-then-tile.ensures.kept;
-      sound = c.tile-then-tile.ensures.sound;
       quiet = λ m.
           let a : Part p c.rect-near.result = record { left = omega (arith, n.left); top = omega (arith, n.top); right = omega (arith, n.left, n.width); bottom = omega (arith, n.top, n.height) } in
           let b : Part p c.rect-far.result = record { left = omega (arith, f.left); top = omega (arith, f.top); right = omega (arith, f.left, f.width); bottom = omega (arith, f.top, f.height) } in
@@ -63,7 +61,6 @@ returns-then-tile-2 g t c =
       laid = λ z. shows_above o _ _ c.args.whole p c.rect-upper.result c.rect-lower.result c.in-Down.n _ _ _ v c.requires.part cut (c.tile-in-Down.ensures.laid c.if-tile-2.true) (c.tile-then-tile-2.ensures.laid z);
       rest = c.tile-then-tile-2.ensures.rest ∙ c.tile-in-Down.ensures.rest;
       kept = kept_follows o model count c.args.self.now c.tile-in-Down.new.self c.tile-then-tile-2.new.self k c.tile-then-tile-2.ensures.kept;
-      sound = c.tile-then-tile-2.ensures.sound;
       quiet = λ m.
           let a : Part p c.rect-upper.result = record { left = omega (arith, n.left); top = omega (arith, n.top); right = omega (arith, n.left, n.width); bottom = omega (arith, n.top, n.height) } in
           let b : Part p c.rect-lower.result = record { left = omega (arith, f.left); top = omega (arith, f.top); right = omega (arith, f.left, f.width); bottom = omega (arith, f.top, f.height) } in

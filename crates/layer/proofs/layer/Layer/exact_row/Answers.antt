@@ -11,14 +11,13 @@ use Rattle.layer.proofs.Rowing.{located-coded}
 use Rattle.layer.proofs.layer.Layer.exact_row.Goals as goal
 
 pub loop-i-init : goal.loop-i-init
-loop-i-init g c = (laid_no_columns _ _ _ _ _ _, refl, kept-none g.P.Pixel.Kind.ops g.P.Picture.model g.P.Picture.count _ _ refl refl refl refl, c.requires.sound)
+loop-i-init g c = (laid_no_columns _ _ _ _ _ _, refl, kept-none g.P.Pixel.Kind.ops g.P.Picture.model g.P.Picture.count _ _ refl refl refl refl)
 
 pub place-requires : goal.place-requires
 place-requires g c =
     let v = kept_shows g.P.Pixel.Kind.ops g.P.Picture.model g.P.Picture.count c.args.self.now c.loop-i.self c.loop-i.invariant.2 in
     let k = c.requires.part in
     record {
-      sound = c.loop-i.invariant.3;
       across = omega (arith, c.requires.across, k.right, ap (λ m. m.shown.width) v);
       down = omega (arith, c.requires.down, k.bottom, c.requires.row, ap (λ m. m.shown.height) v);
     }
@@ -51,7 +50,6 @@ loop-i-preserved g c =
           (located-coded o _ c.in-Ok.code (c.in-Ok.ensures.answer ∙ ap (λ m. located o (m.shown.at (p.left + i) (p.top + j))) (sym v)))),
       drop-set-lt (area r) c.loop-i.buffer at _ lt ∙ c.loop-i.invariant.1,
       kept_follows o model count c.args.self.now c.loop-i.self c.place.new.self c.loop-i.invariant.2 c.place.ensures.kept,
-      c.place.ensures.sound,
     )
 
 pub returns-in-Err : goal.returns-in-Err
@@ -59,7 +57,6 @@ returns-in-Err g c = record {
   laid = λ z. let n : ◌≡◌ {A = ℕ} 0 1 = cc in absurd (omega arith);
   rest = c.loop-i.invariant.1;
   kept = kept_follows g.P.Pixel.Kind.ops g.P.Picture.model g.P.Picture.count c.args.self.now c.loop-i.self c.place.new.self c.loop-i.invariant.2 c.place.ensures.kept;
-  sound = c.place.ensures.sound;
 }
 
 pub returns : goal.returns
@@ -69,5 +66,4 @@ returns g c =
       laid = λ z. laid_width _ _ _ _ _ 1 _ _ _ e c.loop-i.invariant.0;
       rest = c.loop-i.invariant.1;
       kept = c.loop-i.invariant.2;
-      sound = c.loop-i.invariant.3;
     }

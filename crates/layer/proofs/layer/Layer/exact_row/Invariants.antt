@@ -1,7 +1,7 @@
 use Rattle.std.proofs.Common.{◌≡◌, ◌+◌, drop, Some}
 use Rattle.picture.specs.Prepare.{area, coded}
 use Rattle.layer.specs.Laid.{Laid}
-use Rattle.layer.specs.Layers.{Kept, Sound, model_of}
+use Rattle.layer.specs.Layers.{Kept, model_of}
 use Rattle.layer.proofs.layer.Layer.exact_row.Given as goal
 
 abbrev pub invariant-loop-i : goal.invariant-loop-i
@@ -9,4 +9,3 @@ invariant-loop-i g l =
     Laid l.whole l.part.left (l.part.top + l.j) l.i 1 (λ u v c. coded g.P.Pixel.Kind.ops ((model_of g.P.Pixel.Kind.ops g.P.Picture.model l.initial.self).shown.at u v) ≡ Some c) l.initial.buffer l.buffer
     × (drop (area l.whole) l.buffer ≡ drop (area l.whole) l.initial.buffer)
     × Kept g.P.Pixel.Kind.ops g.P.Picture.model g.P.Picture.count l.initial.self l.self
-    × Sound g.P.Pixel.Kind.ops g.P.Picture.model g.P.Picture.sound l.self

@@ -3,7 +3,7 @@ use Rattle.picture.specs.Compose.{taken}
 use Rattle.picture.specs.Steps.{formula, kernel}
 use Rattle.layer.specs.Aims.{weights_of}
 use Rattle.layer.specs.Layers.{located}
-use Rattle.layer.specs.Placing.{kept-none, kept_one, light_mask, few_places, mask_scaled, mixed_as, stood, stood_inside, stood_still}
+use Rattle.layer.specs.Placing.{kept-none, kept_one, light_mask, few_places, mask_scaled, mixed_as, stood, stood_inside}
 use Rattle.layer.proofs.layer.Layer.place.Goals as goal
 
 pub blend-requires : goal.blend-requires
@@ -13,13 +13,12 @@ blend-requires g c =
     let a = c.in-Mean.ensures in
     let lone = a.2.lone c.rect.ensures.width c.rect.ensures.height in
     record {
-      sound = c.requires.sound.0;
-      inside = stood_inside b l.step l.size c.in-Mean.lens.at c.requires.sound.1 a.0;
+      inside = stood_inside b l.step l.size c.in-Mean.lens.at c.args.self.now.stands a.0;
       lens = lone;
       room = search rules;
       light = λ k. omega arith;
       scale = few_places c.in-Mean.lens lone.few;
-      maxval = c.requires.sound.1.maxval;
+      maxval = c.args.self.now.stands.maxval;
     }
 
 pub blend-requires-in-Masked : goal.blend-requires-in-Masked
@@ -29,13 +28,12 @@ blend-requires-in-Masked g c =
     let a = c.in-Masked.ensures in
     let lone = a.2.lone c.rect.ensures.width c.rect.ensures.height in
     record {
-      sound = c.requires.sound.0;
-      inside = stood_inside b l.step l.size c.in-Masked.lens.at c.requires.sound.1 a.0;
+      inside = stood_inside b l.step l.size c.in-Masked.lens.at c.args.self.now.stands a.0;
       lens = lone;
       room = search rules;
       light = light_mask c.in-Masked.mask _ c.of_mask-mask.ensures.weights;
       scale = omega (arith, mask_scaled c.in-Masked.mask, c.of_mask-mask.ensures.scale);
-      maxval = c.requires.sound.1.maxval;
+      maxval = c.args.self.now.stands.maxval;
     }
 
 pub returns-in-Black : goal.returns-in-Black
@@ -46,9 +44,8 @@ returns-in-Black g c =
     let p = c.rect.result in
     record {
       answer = ap Ok (c.code.ensures ∙ ap o.code c.black-pixel.ensures)
-          ∙ ap (λ z. located o (taken o b.maxval b.at z)) (sym (c.in-Black.ensures 0 0 p.wide p.high) ∙ stood b l.step l.size _ _ c.args.u c.args.v c.requires.sound.1 (omega (arith, c.rect.ensures.left)) (omega (arith, c.rect.ensures.top)));
+          ∙ ap (λ z. located o (taken o b.maxval b.at z)) (sym (c.in-Black.ensures 0 0 p.wide p.high) ∙ stood b l.step l.size _ _ c.args.u c.args.v c.args.self.now.stands (omega (arith, c.rect.ensures.left)) (omega (arith, c.rect.ensures.top)));
       kept = kept-none o g.P.Picture.model g.P.Picture.count _ _ refl refl refl refl;
-      sound = c.requires.sound;
     }
 
 pub returns-in-White : goal.returns-in-White
@@ -58,10 +55,9 @@ returns-in-White g c =
     let b = (g.P.Picture.model l.below).shown in
     let p = c.rect.result in
     record {
-      answer = ap Ok (c.code-in-White.ensures ∙ ap o.code (c.white-pixel.ensures ∙ ap o.white c.requires.sound.1.maxval))
-          ∙ ap (λ z. located o (taken o b.maxval b.at z)) (sym (c.in-White.ensures 0 0 p.wide p.high) ∙ stood b l.step l.size _ _ c.args.u c.args.v c.requires.sound.1 (omega (arith, c.rect.ensures.left)) (omega (arith, c.rect.ensures.top)));
+      answer = ap Ok (c.code-in-White.ensures ∙ ap o.code (c.white-pixel.ensures ∙ ap o.white c.args.self.now.stands.maxval))
+          ∙ ap (λ z. located o (taken o b.maxval b.at z)) (sym (c.in-White.ensures 0 0 p.wide p.high) ∙ stood b l.step l.size _ _ c.args.u c.args.v c.args.self.now.stands (omega (arith, c.rect.ensures.left)) (omega (arith, c.rect.ensures.top)));
       kept = kept-none o g.P.Picture.model g.P.Picture.count _ _ refl refl refl refl;
-      sound = c.requires.sound;
     }
 
 pub returns-in-Copy : goal.returns-in-Copy
@@ -72,9 +68,8 @@ returns-in-Copy g c =
     let p = c.rect.result in
     record {
       answer = c.single.ensures.answer (formula l.step l.size.width l.size.height (p.left + 0) (p.top + 0)) (c.in-Copy.ensures.1 0 0 p.wide p.high)
-          ∙ ap (λ z. located o (taken o b.maxval b.at z)) (stood b l.step l.size _ _ c.args.u c.args.v c.requires.sound.1 (omega (arith, c.rect.ensures.left)) (omega (arith, c.rect.ensures.top)));
+          ∙ ap (λ z. located o (taken o b.maxval b.at z)) (stood b l.step l.size _ _ c.args.u c.args.v c.args.self.now.stands (omega (arith, c.rect.ensures.left)) (omega (arith, c.rect.ensures.top)));
       kept = kept_one o g.P.Picture.model g.P.Picture.count _ _ c.single.ensures.keeps c.single.ensures.counts refl refl refl;
-      sound = (c.single.ensures.sound, stood_still b l.step l.size _ (ap (λ m. m.shown) c.single.ensures.keeps) c.requires.sound.1);
     }
 
 pub returns-in-Mean : goal.returns-in-Mean
@@ -85,9 +80,8 @@ returns-in-Mean g c =
     let p = c.rect.result in
     record {
       answer = c.blend.ensures.answer (formula l.step l.size.width l.size.height (p.left + 0) (p.top + 0)) (c.in-Mean.ensures.1 0 0 p.wide p.high)
-          ∙ ap (λ z. located o (taken o b.maxval b.at z)) (stood b l.step l.size _ _ c.args.u c.args.v c.requires.sound.1 (omega (arith, c.rect.ensures.left)) (omega (arith, c.rect.ensures.top)));
+          ∙ ap (λ z. located o (taken o b.maxval b.at z)) (stood b l.step l.size _ _ c.args.u c.args.v c.args.self.now.stands (omega (arith, c.rect.ensures.left)) (omega (arith, c.rect.ensures.top)));
       kept = kept_one o g.P.Picture.model g.P.Picture.count _ _ c.blend.ensures.keeps c.blend.ensures.counts refl refl refl;
-      sound = (c.blend.ensures.sound, stood_still b l.step l.size _ (ap (λ m. m.shown) c.blend.ensures.keeps) c.requires.sound.1);
     }
 
 pub returns-in-Masked : goal.returns-in-Masked
@@ -103,7 +97,6 @@ returns-in-Masked g c =
       answer = c.blend-in-Masked.ensures.answer (formula l.step l.size.width l.size.height (p.left + 0) (p.top + 0))
           (mixed_as c.in-Masked.lens (weights_of m) (λ k. get_or s.weights k (pos 0)) (kernel m).scale s.scale (kernel m).offset _ 0 0 _ (λ k. ap (λ z. get_or z k (pos 0)) (sym c.of_mask-mask.ensures.weights))
           (sym c.of_mask-mask.ensures.scale) (sym c.of_mask-mask.ensures.offset ∙ sym (to_z-of_z fits)) (c.in-Masked.ensures.1 0 0 p.wide p.high))
-          ∙ ap (λ z. located o (taken o b.maxval b.at z)) (stood b l.step l.size _ _ c.args.u c.args.v c.requires.sound.1 (omega (arith, c.rect.ensures.left)) (omega (arith, c.rect.ensures.top)));
+          ∙ ap (λ z. located o (taken o b.maxval b.at z)) (stood b l.step l.size _ _ c.args.u c.args.v c.args.self.now.stands (omega (arith, c.rect.ensures.left)) (omega (arith, c.rect.ensures.top)));
       kept = kept_one o g.P.Picture.model g.P.Picture.count _ _ c.blend-in-Masked.ensures.keeps c.blend-in-Masked.ensures.counts refl refl refl;
-      sound = (c.blend-in-Masked.ensures.sound, stood_still b l.step l.size _ (ap (λ z. z.shown) c.blend-in-Masked.ensures.keeps) c.requires.sound.1);
     }

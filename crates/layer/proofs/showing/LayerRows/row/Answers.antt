@@ -10,14 +10,13 @@ pub place-requires : goal.place-requires
 place-requires g c =
     let v = kept_shows g.P.Pixel.Kind.ops g.P.Picture.model g.P.Picture.count c.args.self.now c.loop-k.self c.loop-k.invariant.1 in
     record {
-      sound = c.loop-k.invariant.2;
       across = omega (arith, c.requires.across, ap (λ m. m.shown.width) v);
       down = omega (arith, c.requires.down, ap (λ m. m.shown.height) v);
     }
 
 pub loop-k-init : goal.loop-k-init
 loop-k-init g c =
-    (λ k h. absurd (omega arith), kept-none g.P.Pixel.Kind.ops g.P.Picture.model g.P.Picture.count c.args.self.now c.args.self.now refl refl refl refl, c.requires.ready)
+    (λ k h. absurd (omega arith), kept-none g.P.Pixel.Kind.ops g.P.Picture.model g.P.Picture.count c.args.self.now c.args.self.now refl refl refl refl)
 
 pub loop-k-preserved : goal.loop-k-preserved
 loop-k-preserved g c =
@@ -28,7 +27,6 @@ loop-k-preserved g c =
       shown-next o (lined (model_of o model c.args.self.now).shown c.args.left c.args.row) c.loop-k.out c.loop-k.k c.in-Ok.code (omega arith) c.loop-k.invariant.0
           (c.in-Ok.ensures.answer ∙ ap (λ m. located o (m.shown.at (c.args.left + c.loop-k.k) c.args.row)) (sym v)),
       kept_follows o model count c.args.self.now c.loop-k.self c.place.new.self c.loop-k.invariant.1 c.place.ensures.kept,
-      c.place.ensures.sound,
     )
 
 pub returns-in-Err : goal.returns-in-Err
@@ -42,7 +40,6 @@ returns-in-Err g c =
           (c.in-Err.ensures.answer ∙ ap (λ m. located o (m.shown.at (c.args.left + c.loop-k.k) c.args.row)) (sym v));
       shown = λ z. let n : ◌≡◌ {A = ℕ} 0 1 = cc in absurd (omega arith);
       same = kept_follows o model count c.args.self.now c.loop-k.self c.place.new.self c.loop-k.invariant.1 c.place.ensures.kept;
-      ready = c.place.ensures.sound;
     }
 
 pub returns : goal.returns
@@ -55,5 +52,4 @@ returns g c =
       answer = ap or_fault (sym (shown_clean o f (length c.args.out.now) c.loop-k.out s));
       shown = λ z. s;
       same = c.loop-k.invariant.1;
-      ready = c.loop-k.invariant.2;
     }
