@@ -6,6 +6,7 @@ use Rattle.picture.specs.declared.step.Ground.TheVariants as grounds
 use Rattle.picture.specs.Steps.{Formula, copied, among, nearest, embedded}
 use Rattle.layer.specs.declared.spread.Spread.{Spread}
 use Rattle.layer.specs.declared.aim.Carry.{Carry}
+use Rattle.layer.specs.declared.aim.Aim.{Aim}
 use Rattle.layer.specs.declared.aim.Aim.TheVariants as aim
 use Rattle.layer.specs.Aims.{Aims, Carried, Ground, Needless}
 use Rattle.layer.specs.Spreads.{Falls, Spreads, beside}
@@ -28,17 +29,10 @@ shows_both false b f = refl
 -- not all of them do
 one_inside : (s : Option Spread) (u : ℕ) (x : ℤ) (n m : ℕ) → 1 ≤ n → Spreads s u x n m → beside s ≡ false → (i : ℕ) × (i < n) × (among (pos (u + i) -ℤ x) m ≡ true)
 one_inside None u x n m some h e = (h.place, h.one, h.there)
-one_inside (Some s) u x n m some h e = (0, some, h.side 0 some ∙ flip s.inside e)
-  where
-    flip : (b : Bool) → not b ≡ false → b ≡ true
-    flip true e = refl
-    flip false e = sym e
+one_inside (Some s) u x n m some h e = (0, some, h.side 0 some ∙ ap not e)
 
 pub spreads_moved : (s : Option Spread) (u : ℕ) (x x' : ℤ) (n m : ℕ) → x ≡ x' → Spreads s u x n m → Spreads s u x' n m
 spreads_moved s u x x' n m e h = subst (λ (z : ℤ). Spreads s u z n m) e h
-
-pub spread_some : (s : Option Spread) (a : Spread) (u : ℕ) (x : ℤ) (n m : ℕ) → s ≡ Some a → Spreads s u x n m → Falls a u x n m
-spread_some s a u x n m e h = subst (λ (z : Option Spread). Spreads z u x n m) e h
 
 module _ (x y : ℤ) (W H : ℕ) (p : Rect) where
   -- the formula of an embedding's place
@@ -55,26 +49,25 @@ module _ (x y : ℤ) (W H : ℕ) (p : Rect) where
   inside-near : (g : declared.Ground) (u v : ℕ) → among (pos u -ℤ x) W ≡ true → among (pos v -ℤ y) H ≡ true → placing g u v ≡ near W H (pos u -ℤ x) (pos v -ℤ y)
   inside-near g u v a b = shows_in _ _ _ _ a b
 
-  not_false : (b : Bool) → not b ≡ false → b ≡ true
-  not_false true e = refl
-  not_false false e = sym e
-
   shows_near : (a b : Spread) (g : declared.Ground) → Shows (Some a) (Some b) g → Falls a p.left x p.width W → Falls b p.top y p.height H → (i j : ℕ) → i < p.width → j < p.height
       → placing g (p.left + i) (p.top + j) ≡ near W H (pos (p.left + i) -ℤ x) (pos (p.top + j) -ℤ y)
   shows_near a b g (inl e) ha hb i j li lj = copy_near g _ _ e
-  shows_near a b g (inr e) ha hb i j li lj = inside-near g _ _ (ha.side i li ∙ not_false a.inside e.0) (hb.side j lj ∙ not_false b.inside e.1)
+  shows_near a b g (inr e) ha hb i j li lj = inside-near g _ _ (ha.side i li ∙ ap not e.0) (hb.side j lj ∙ ap not e.1)
 
-  pub is_copy : (a b : Spread) (c : Carry) (g : declared.Ground) → Shows (Some a) (Some b) g → Falls a p.left x p.width W → Falls b p.top y p.height H
+  pub is_copy : (s t : Option Spread) (a b : Spread) (c : Carry) (g : declared.Ground) → s ≡ Some a → t ≡ Some b → Shows s t g → Spreads s p.left x p.width W → Spreads t p.top y p.height H
       → c.at.left ≡ a.first → c.at.top ≡ b.first → c.at.width ≡ a.count → c.at.height ≡ b.count → c.base ≡ 0 → c.right ≡ a.step → c.left ≡ 0 → c.down ≡ b.step * a.count → c.up ≡ 0
-      → Aims (aim.Copy c) (placing g) W H p
-  is_copy a b c g sh ha hb el et ew eh e₀ e₁ e₂ e₃ e₄ =
+      → Aims (Some (aim.Copy c)) (placing g) W H p
+  is_copy s t a b c g ea eb sh hs ht el et ew eh e₀ e₁ e₂ e₃ e₄ =
+      let ha : Falls a p.left x p.width W = subst (λ (z : Option Spread). Spreads z p.left x p.width W) ea hs in
+      let hb : Falls b p.top y p.height H = subst (λ (z : Option Spread). Spreads z p.top y p.height H) eb ht in
+      let near : Shows (Some a) (Some b) g = subst (λ (z : Option Spread). Shows z (Some b) g) ea (subst (λ (z : Option Spread). Shows s z g) eb sh) in
       let k = copies_spread c W H p (λ u v. nearest (pos u -ℤ x) W) (λ u v. nearest (pos v -ℤ y) H) a.step b.step
       (record { across = omega (arith, ha.within); down = omega (arith, hb.within) }) e₀ e₁ e₂ (e₃ ∙ ap (λ z. b.step * z) (sym ew)) e₄ (λ z. ew ∙ ha.lone z) (λ z. eh ∙ hb.lone z)
       (λ i j li lj. (ha.near i li ∙ ap (λ z. z + i * a.step) (sym el), omega (arith, ha.room i li), hb.near j lj ∙ ap (λ z. z + j * b.step) (sym et), omega (arith, hb.room j lj))) ha.single hb.single in
-      (k.inside, λ i j li lj. subst (Carried c i j) (sym (shows_near a b g sh ha hb i j li lj)) (k.each i j li lj), k.wide, k.steady)
+      (k.inside, λ i j li lj. subst (Carried c i j) (sym (shows_near a b g near ha hb i j li lj)) (k.each i j li lj), k.wide, k.steady)
 
-  pub is_edge : (a b : Option Spread) (g : declared.Ground) → Shows a b g → Spreads a p.left x p.width W → Spreads b p.top y p.height H → (a ≡ None) ⊎ (b ≡ None) → Aims aim.Edge (placing g) W H p
-  is_edge a b g sh ha hb z = (long a b ha hb z, λ idle. needs a b sh ha hb idle)
+  pub is_edge : (r : Option Aim) (a b : Option Spread) (g : declared.Ground) → r ≡ None → Shows a b g → Spreads a p.left x p.width W → Spreads b p.top y p.height H → (a ≡ None) ⊎ (b ≡ None) → Aims r (placing g) W H p
+  is_edge r a b g e sh ha hb z = subst (λ (o : Option Aim). Aims o (placing g) W H p) (sym e) (long a b ha hb z, λ idle. needs a b sh ha hb idle)
     where
       long : (a b : Option Spread) → Spreads a p.left x p.width W → Spreads b p.top y p.height H → (a ≡ None) ⊎ (b ≡ None) → 3 ≤ p.width + p.height
       long None b ha hb h = omega (arith, ha.more, p.high)

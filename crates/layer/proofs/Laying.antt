@@ -1,11 +1,13 @@
 -- Parts of a rectangle, laid one beside another.
-use Rattle.std.proofs.Common.{◌≡◌, ℕ, ◌+◌, ◌-◌, ◌*◌, ◌/◌, ◌%◌, ◌<◌, ◌≤◌, ◌≢◌, ◌⊎◌, List, length, get_or, set, Some, sym, refl, ap, ◌∙◌, subst, ⊎_elim, arith, rules}
-use Rattle.std.proofs.lemmas.List.{get_or-set_same, get_or-set_other}
-use Rattle.std.proofs.lemmas.Nat.{div-mul-add, mod-mul-add}
+use Rattle.std.proofs.Common.{◌≡◌, ℕ, ◌+◌, ◌-◌, ◌*◌, ◌/◌, ◌%◌, ◌<◌, ◌≤◌, ◌⊎◌, List, ◌++◌, length, get_or, take, Some, sym, refl, ap, ◌∙◌, subst, ⊎_elim, arith, rules}
+use borrow.Rule.Slice.PartMut.{post_of, put_mid}
+use Rattle.std.proofs.lemmas.List.{get_or_append_left, get_or-append_right, get_or-drop, get_or-take, length-take-le}
+use Rattle.std.proofs.lemmas.Slice.{drop-put_mid}
+use Rattle.std.proofs.lemmas.Nat.{div-mul-add, mod-mul-add, mul-add-lt}
 use Rattle.picture.specs.declared.rect.Rect.{Rect}
 use Rattle.pixel.specs.Ops.{Ops}
 use Rattle.picture.specs.Images.{Image}
-use Rattle.picture.specs.Prepare.{coded}
+use Rattle.picture.specs.Prepare.{area, coded}
 use Rattle.picture.specs.Region.{Within}
 use Rattle.layer.specs.Aims.{spot}
 use Rattle.layer.specs.Laid.{Among, Laid, Part}
@@ -41,17 +43,57 @@ same_spot r u v x y p q e =
     let d : v - r.top ≡ y - r.top = sym (div-mul-add (v - r.top) r.width (u - r.left) lu) ∙ ap (λ k. k / r.width) e ∙ div-mul-add (y - r.top) r.width (x - r.left) lx in
     (omega (arith, p.left, q.left), omega (arith, p.top, q.top))
 
-pub laid_one : (r : Rect) (x y : ℕ) (P : Marks) (t : List ℕ) (c k : ℕ) → Within r x y → k ≡ spot r x y → k < length t → P x y c → Laid r x y 1 1 P t (set t k c)
-laid_one r x y P t c k w e room p = record {
-  inside = λ u v a.
-      let eu : x ≡ u = omega (arith, a.left, a.right) in
-      let ev : y ≡ v = omega (arith, a.top, a.bottom) in
-      let here : P x y (get_or (set t k c) (spot r x y) 0) = subst (P x y) (sym (ap (λ z. get_or (set t k c) z 0) (sym e) ∙ get_or-set_same t k c 0 room)) p in
-      subst (λ (z : ℕ). P u z (get_or (set t k c) (spot r u z) 0)) ev (subst (λ (z : ℕ). P z y (get_or (set t k c) (spot r z y) 0)) eu here);
+pub spot_below : (r : Rect) (x y : ℕ) → Within r x y → spot r x y < area r
+spot_below r x y w =
+    mul-add-lt (y - r.top) r.width (x - r.left) r.height (omega (arith, w.top, w.bottom)) (omega (arith, w.left, w.right))
+
+-- a part of a list is written over
+put_front : (t row : List ℕ) (a m k : ℕ) → a ≤ length t → k < a → get_or (put_mid a m t row) k 0 ≡ get_or t k 0
+put_front t row a m k h l =
+    get_or_append_left (take a t) (row ++ post_of a m t) 0 k (omega (arith, length-take-le a t h)) ∙ get_or-take a t k 0 l
+
+put_part : (t row : List ℕ) (a m k : ℕ) → a ≤ length t → k < length row → get_or (put_mid a m t row) (a + k) 0 ≡ get_or row k 0
+put_part t row a m k h l =
+    let e : a + k - a ≡ k = omega arith in
+    get_or-append_right (take a t) (row ++ post_of a m t) a (a + k) 0 (length-take-le a t h) (omega arith)
+    ∙ ap (λ z. get_or (row ++ post_of a m t) z 0) e ∙ get_or_append_left row (post_of a m t) 0 k l
+
+put_back : (t row : List ℕ) (a m k : ℕ) → a ≤ length t → length row ≡ m → a + m ≤ k → get_or (put_mid a m t row) k 0 ≡ get_or t k 0
+put_back t row a m k h e l =
+    let s : a + m + (k - (a + m)) ≡ k = omega arith in
+    ap (λ z. get_or (put_mid a m t row) z 0) (sym s) ∙ sym (get_or-drop (a + m) _ (k - (a + m)) 0) ∙ ap (λ z. get_or z (k - (a + m)) 0) (drop-put_mid a m t row (a + m) (omega arith) h e)
+    ∙ get_or-drop (a + m) _ (k - (a + m)) 0 ∙ ap (λ z. get_or t z 0) s
+
+-- row j of a part is written over
+pub laid_row : (r p : Rect) (j a m : ℕ) (P : Marks) (t row : List ℕ) → Part r p → j < p.height → length t ≡ area r → a ≡ spot r p.left (p.top + j) → length row ≡ p.width → m ≡ p.width
+    → ((i : ℕ) → i < p.width → P (p.left + i) (p.top + j) (get_or row i 0)) → Laid r p.left (p.top + j) p.width 1 P t (put_mid a m t row)
+laid_row r p j a m P t row k lj room ea e em f = record {
+  inside = λ u v b.
+      let ev : v ≡ p.top + j = omega (arith, b.top, b.bottom) in
+      let eu : u ≡ p.left + (u - p.left) = omega (arith, b.left) in
+      let es : spot r u v ≡ a + (u - p.left) = omega (arith, ap (λ z. (z - r.top) * r.width) ev, k.left, b.left) in
+      let q : P (p.left + (u - p.left)) (p.top + j) (get_or row (u - p.left) 0) = f (u - p.left) (omega (arith, b.left, b.right)) in
+      let there : get_or (put_mid a m t row) (spot r u v) 0 ≡ get_or row (u - p.left) 0 =
+      ap (λ z. get_or (put_mid a m t row) z 0) es ∙ put_part t row a m (u - p.left) here (omega (arith, b.left, b.right)) in
+      subst (P u v) (sym there) (subst (λ (z : ℕ). P u z (get_or row (u - p.left) 0)) (sym ev) (subst (λ (z : ℕ). P z (p.top + j) (get_or row (u - p.left) 0)) (sym eu) q));
   outside = λ u v i n.
-      let ne : spot r u v ≢ k = λ q. (let s = same_spot r u v x y i w (q ∙ e) in n (record { left = omega (arith, s.0); top = omega (arith, s.1); right = omega (arith, s.0); bottom = omega (arith, s.1) })) in
-      get_or-set_other t k (spot r u v) c 0 ne;
+      ⊎_elim (λ lt. put_front t row a m (spot r u v) here lt)
+      (λ ge. ⊎_elim
+      (λ lt. let c = same_spot r u v (p.left + (spot r u v - a)) (p.top + j) i (within (spot r u v - a) (omega arith)) (omega (arith, k.left)) in
+      absurd (n (record { left = omega (arith, c.0); top = omega (arith, c.1); right = omega (arith, c.0); bottom = omega (arith, c.1) })))
+      (λ past. put_back t row a m (spot r u v) here (omega arith) past)
+      (below_or (spot r u v) (a + m)))
+      (below_or (spot r u v) a);
 }
+  where
+    within : (i : ℕ) → i < p.width → Within r (p.left + i) (p.top + j)
+    within i l = record { left = omega (arith, k.left); top = omega (arith, k.top); right = omega (arith, k.right); bottom = omega (arith, k.bottom) }
+
+    first : Within r p.left (p.top + j)
+    first = record { left = k.left; top = omega (arith, k.top); right = omega (arith, k.right, p.wide); bottom = omega (arith, k.bottom) }
+
+    here : a ≤ length t
+    here = omega (arith, spot_below r p.left (p.top + j) first)
 
 pub laid_beside : (r : Rect) (x y a b h : ℕ) (P : Marks) (t₀ t₁ t₂ : List ℕ) → Held r x y (a + b) h → Laid r x y a h P t₀ t₁ → Laid r (x + a) y b h P t₁ t₂ → Laid r x y (a + b) h P t₀ t₂
 laid_beside r x y a b h P t₀ t₁ t₂ k one two = record {
@@ -82,12 +124,6 @@ laid_above r x y w a b P t₀ t₁ t₂ k one two = record {
 -- what is said of a part may be said in other words
 pub laid_as : (r : Rect) (x y w h : ℕ) (P Q : Marks) (t₀ t₁ : List ℕ) → ((u v c : ℕ) → Among x y w h u v → P u v c → Q u v c) → Laid r x y w h P t₀ t₁ → Laid r x y w h Q t₀ t₁
 laid_as r x y w h P Q t₀ t₁ f l = record { inside = λ u v a. f u v _ a (l.inside u v a); outside = l.outside }
-
--- the spot of a place of a part
-pub part-spot : (r p : Rect) (i j : ℕ) → Part r p → (p.top - r.top + j) * r.width + (p.left - r.left + i) ≡ spot r (p.left + i) (p.top + j)
-part-spot r p i j k =
-    let ey : p.top - r.top + j ≡ p.top + j - r.top = omega (arith, k.top) in
-    omega (arith, ap (λ z. z * r.width) ey, k.left)
 
 pub laid_width : (r : Rect) (x y w n h : ℕ) (P : Marks) (t₀ t₁ : List ℕ) → w ≡ n → Laid r x y w h P t₀ t₁ → Laid r x y n h P t₀ t₁
 laid_width r x y w n h P t₀ t₁ e l = subst (λ (k : ℕ). Laid r x y k h P t₀ t₁) e l

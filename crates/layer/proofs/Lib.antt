@@ -1,4 +1,5 @@
 pub mod Summing
+pub mod Laying
 pub mod Holes
 pub mod Asking
 pub mod Reading
@@ -9,7 +10,6 @@ pub mod Mixing
 pub mod Rowing
 pub mod Deciding
 pub mod Telling
-pub mod Laying
 pub mod Parting
 pub mod Tiling
 pub mod Serving

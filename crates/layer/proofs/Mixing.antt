@@ -15,6 +15,7 @@ use Rattle.layer.specs.declared.aim.Carry.{Carry}
 use Rattle.layer.specs.declared.aim.Lens.{Lens}
 use Rattle.layer.specs.Aims.{Carried, Mixed, Mixes, lens_column, lens_pixel, lens_row, lens_spot, spot, walked}
 use Rattle.layer.proofs.Asking.{reads_pixel}
+use Rattle.layer.proofs.Laying.{spot_below}
 use Rattle.layer.proofs.Holes.{Covers, each_none, first_covered, none_each}
 use Rattle.layer.proofs.Reading.{column_inside, spot_at, spot-inside}
 use Rattle.layer.proofs.Summing.{summed_same}
@@ -28,10 +29,6 @@ spot-nth b r x y w =
     ap (λ z. b.at (r.left + z) (r.top + spot r x y / r.width)) (mod-mul-add (y - r.top) r.width (x - r.left) lx)
     ∙ ap (λ z. b.at (r.left + (x - r.left)) (r.top + z)) (div-mul-add (y - r.top) r.width (x - r.left) lx)
     ∙ ap (λ z. b.at z (r.top + (y - r.top))) ex ∙ ap (λ z. b.at x z) ey
-
-pub spot_below : (r : Rect) (x y : ℕ) → Within r x y → spot r x y < area r
-spot_below r x y w =
-    mul-add-lt (y - r.top) r.width (x - r.left) r.height (omega (arith, w.top, w.bottom)) (omega (arith, w.left, w.right))
 
 -- a window's places cover its region, if it is no larger
 pub covers : (l : Lens) → 1 ≤ l.columns → l.at.width + l.before ≤ l.columns → l.at.height + l.above ≤ l.rows → Covers (lens_spot l 0 0) (l.columns * l.rows) (area l.at)

@@ -1,5 +1,6 @@
 -- A part of a step, by the ways that make it.
-use Rattle.std.proofs.Common.{◌≡◌, ℕ, ◌+◌, ◌-◌, ◌*◌, ◌<◌, ◌≤◌, List, length, get_or, ℤ, Some, sym, ap, ◌∙◌, subst, arith}
+use Rattle.std.proofs.Common.{◌≡◌, ℕ, ◌+◌, ◌-◌, ◌*◌, ◌<◌, ◌≤◌, List, length, get_or, ℤ, Some, Ok, Err, Result, sym, ap, ◌∙◌, subst, arith}
+use Rattle.std.proofs.lemmas.Nat.{mul-le}
 use Rattle.pixel.specs.Ops.{Ops}
 use Rattle.picture.specs.declared.rect.Rect.{Rect}
 use Rattle.picture.specs.declared.size.Size.{Size}
@@ -8,9 +9,14 @@ use Rattle.picture.specs.Compose.{stepped, summed, taken}
 use Rattle.picture.specs.Images.{Image}
 use Rattle.picture.specs.Prepare.{Shown, area, coded, nth}
 use Rattle.picture.specs.Steps.{Formula, black, white, copied, mixed, formula}
+use Rattle.layer.specs.declared.aim.Aim.{Aim}
 use Rattle.layer.specs.declared.aim.Carry.{Carry}
 use Rattle.layer.specs.declared.aim.Lens.{Lens}
-use Rattle.layer.specs.Aims.{Carried, Each, Ground, Mixed, Needless, Readable, Few, lens_pixel, walked}
+use Rattle.layer.specs.Aims.{Aims, Carried, Each, Ground, Mixed, Needless, Few, Lone, Readable, lens_pixel, walked}
+use Rattle.picture.specs.declared.fault.Fault.{Fault}
+use Rattle.layer.specs.declared.undrawn.Undrawn.{Undrawn}
+use Rattle.layer.specs.declared.undrawn.Undrawn.TheVariants.{Uncut, Hole}
+use Rattle.layer.specs.Told.{Told}
 use Rattle.layer.specs.Laid.{Laid, Shows}
 use Rattle.layer.specs.Standing.{Stands}
 use Rattle.layer.proofs.Asking.{reads_some}
@@ -43,6 +49,14 @@ mixed_at l w s f i j p φ m =
     let ej : j ≡ p.top + j - p.top = omega arith in
     subst (λ (k : ℕ). Mixed l w s f (p.left + i - p.left) k φ) ej (subst (λ (k : ℕ). Mixed l w s f k j φ) ei m)
 
+-- a region that the first window covers has room
+pub lone_area : (l : Lens) → Lone l → area l.at ≤ 4096
+lone_area l h = omega (arith, mul-le l.at.width l.at.height l.columns l.rows (omega (arith, h.wide)) (omega (arith, h.high)), h.few.few)
+
+-- what an aim says, said of another name of it
+pub aims_as : (a b : Aim) (φ : ℕ → ℕ → Formula) (W H : ℕ) (p : Rect) → a ≡ b → Aims (Some a) φ W H p → Aims (Some b) φ W H p
+aims_as a b φ W H p e k = subst (λ (z : Aim). Aims (Some z) φ W H p) e k
+
 module _ {K S : Type 0} (o : Ops K S) (b : Image K) where
   -- what is drawn of each place is its code
   pub shows_drawn : (s : Step) (z : Size) (r p : Rect) (P : ℕ → ℕ → ℕ → Type 0) (t₀ t₁ : List ℕ) → Stands b s z
@@ -73,3 +87,15 @@ module _ {K S : Type 0} (o : Ops K S) (b : Image K) where
 
   pub can_read : (d : (p : K) → o.decode (o.code p) ≡ Some p) (l : Lens) (codes : List ℕ) (i j : ℕ) → Few l → i ≤ 65535 → j ≤ 65535 → area l.at ≤ length codes → Shown o (nth b l.at) (area l.at) codes → Readable o codes l i j
   can_read d l codes i j few x y h s = record { few = few; near = (x, y); room = h; pixels = λ k lt. reads_some o d (nth b l.at k) _ (s k lt) }
+
+-- the same fault told in other words
+pub told_as : {A B : Type 0} (r : Result Unit Undrawn) (x : Result A Fault) (y : Result B Fault) → ((f : Fault) → Err f ≡ x → Err f ≡ y) → Told r x → Told r y
+told_as (Ok u) x y h t = tt
+told_as (Err Uncut) x y h t = t
+told_as (Err (Hole f)) x y h t = h f t
+
+pub told_drawn : {A : Type 0} (r : Result Unit Undrawn) (x : Result A Fault) → r ≡ Ok tt → Told r x
+told_drawn r x e = subst (λ (z : Result Unit Undrawn). Told z x) (sym e) tt
+
+pub told_hole : {A : Type 0} (r : Result Unit Undrawn) (f : Fault) (x : Result A Fault) → r ≡ Err (Hole f) → Err f ≡ x → Told r x
+told_hole r f x e h = subst (λ (z : Result Unit Undrawn). Told z x) (sym e) h

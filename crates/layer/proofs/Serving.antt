@@ -1,6 +1,7 @@
 -- A prepare of a layer, by pieces or by rows.
-use Rattle.std.proofs.Common.{◌≡◌, ℕ, zero, suc, ◌+◌, ◌-◌, ◌*◌, ◌/◌, ◌%◌, ◌^◌, ◌<◌, ◌≤◌, List, [], ◌++◌, map, length, get_or, drop, replicate, Some, None, Option, sym, ap, ◌∙◌, mul_comm, arith, rules}
+use Rattle.std.proofs.Common.{◌≡◌, ℕ, zero, suc, ◌+◌, ◌-◌, ◌*◌, ◌/◌, ◌%◌, ◌^◌, ◌<◌, ◌≤◌, List, [], ◌++◌, map, length, get_or, drop, replicate, Some, None, Option, Ok, Err, Result, true, is_ok, refl, sym, ap, ◌∙◌, mul_comm, length-append, length-drop, arith, rules}
 use Rattle.std.proofs.lemmas.Nat.{div-add-mod', div_below, mod_below}
+use Rattle.std.proofs.lemmas.List.{drop_at, get_or_append_left}
 use Rattle.std.specs.List.{range_with_len}
 use Rattle.pixel.specs.Ops.{Ops}
 use Rattle.picture.specs.declared.fault.Fault.{Fault}
@@ -19,6 +20,10 @@ put_rest : (x : Option Fault) (f : ℕ → ℕ) (n : ℕ) (t₀ t₁ : List ℕ)
 put_rest None f n t₀ t₁ e = ap (λ d. map f (range_with_len 0 n) ++ d) e
 put_rest (Some x) f n t₀ t₁ e = ap (λ d. replicate n 0 ++ d) e
 
+-- other entries in place of the first n
+pub same_rest : (t s : List ℕ) (n a : ℕ) → n ≡ a → n ≤ length t → length s ≡ n → (length (s ++ drop n t) ≡ length t) × (drop a (s ++ drop n t) ≡ drop a t)
+same_rest t s n a e h l = (omega (arith, length-append s (drop n t), length-drop n t), ap (λ z. drop z (s ++ drop n t)) (sym e) ∙ drop_at s (drop n t) n l ∙ ap (λ z. drop z t) e)
+
 module _ {K S : Type 0} (o : Ops K S) (b : Image K) (r : Rect) where
   -- a rectangle that is shown is shown in reading order
   shown_whole : (t₀ t₁ : List ℕ) → Shows o b r r t₀ t₁ → Shown o (nth b r) (area r) t₁
@@ -31,13 +36,15 @@ module _ {K S : Type 0} (o : Ops K S) (b : Image K) (r : Rect) where
       let e : spot r (r.left + k % r.width) (r.top + k / r.width) ≡ k = ap (λ z. z * r.width + (r.left + k % r.width - r.left)) ey ∙ ap (λ z. k / r.width * r.width + z) ex ∙ div-add-mod' k r.width in
       l.inside (r.left + k % r.width) (r.top + k / r.width) (record { left = omega arith; top = omega arith; right = omega arith; bottom = omega arith }) ∙ ap (λ z. Some (get_or t₁ z 0)) e
 
-  -- all pieces were drawn
-  pub served_pieces : (t₀ t₁ : List ℕ) → r.left + r.width ≤ b.width → r.top + r.height ≤ b.height → area r ≤ length t₀ → length t₁ ≡ length t₀ → Shows o b r r t₀ t₁ → drop (area r) t₁ ≡ drop (area r) t₀
-      → (done ≡ answer b r (length t₀)) × (t₁ ≡ filled o b r t₀)
-  served_pieces t₀ t₁ x y z len l d =
-      let s = shown_whole t₀ t₁ l in (
-        sym (answer_is b r (length t₀) x y z ∙ ap holed (shown_clean o (nth b r) (area r) t₁ s)),
-        whole o (nth b r) (area r) t₀ t₁ (omega arith) s d ∙ sym (filled_is o b r t₀ x y z),
+  -- all pieces were drawn in the first n entries
+  pub served_pieces : (u t s : List ℕ) (n : ℕ) → r.left + r.width ≤ b.width → r.top + r.height ≤ b.height → n ≡ area r → n ≤ length t → length s ≡ n → Shows o b r r u s
+      → (done ≡ answer b r (length t)) × (s ++ drop n t ≡ filled o b r t)
+  served_pieces u t s n x y e len l h =
+      let room : area r ≤ length t = omega arith in
+      let same = same_rest t s n (area r) e len l in
+      let w : Shown o (nth b r) (area r) (s ++ drop n t) = λ k lt. shown_whole u s h k lt ∙ ap Some (sym (get_or_append_left s (drop n t) 0 k (omega arith))) in (
+        sym (answer_is b r (length t) x y room ∙ ap holed (shown_clean o (nth b r) (area r) s (shown_whole u s h))),
+        whole o (nth b r) (area r) t (s ++ drop n t) (omega (arith, same.0)) w same.1 ∙ sym (filled_is o b r t x y room),
       )
 
   -- by rows, after a piece met a hole
@@ -69,3 +76,7 @@ module _ {K S : Type 0} (o : Ops K S) (b : Image K) (r : Rect) (t : List ℕ) wh
 
   pub refused_short : r.left + r.width ≤ b.width → r.top + r.height ≤ b.height → length t < area r → (refused 11 [] ≡ answer b r (length t)) × (t ≡ filled o b r t)
   refused_short x y h = (search rules, search rules)
+
+pub ok_of : (r : Result Unit Fault) → is_ok r ≡ true → r ≡ Ok tt
+ok_of (Ok u) e = refl
+ok_of (Err f) e = cc

@@ -1,5 +1,5 @@
 -- Places of one side over the side below.
-use Rattle.std.proofs.Common.{◌≡◌, ℕ, suc, ◌+◌, ◌-◌, ◌<◌, ◌≤◌, Bool, true, false, ℤ, pos, negsuc, ◌+ℤ◌, ◌-ℤ◌, ◌≤ℤ◌, ◌<ℤ◌, refl, ap, ◌∙◌, arith, rules}
+use Rattle.std.proofs.Common.{◌≡◌, ℕ, suc, ◌+◌, ◌-◌, ◌<◌, ◌≤◌, true, false, ℤ, pos, negsuc, ◌+ℤ◌, ◌-ℤ◌, ◌≤ℤ◌, ◌<ℤ◌, refl, ap, ◌∙◌, arith, rules}
 use borrow.Author.Differences.{ints}
 use Rattle.layer.specs.declared.spread.Spread.{Spread}
 use Rattle.layer.specs.Spreads.{Falls, Parted}
@@ -25,11 +25,11 @@ among-behind z a n e h = ap (λ x. among x n) e ∙ search rules
 pub near-behind : (z : ℤ) (a n : ℕ) → z ≡ pos a → n ≤ a → nearest z n ≡ n - 1
 near-behind z a n e h = ap (λ x. nearest x n) e ∙ omega arith
 
-abbrev spreading : ℕ → ℕ → ℕ → Bool → Spread
-spreading f n k b = record { first = f; count = n; step = k; inside = b }
+abbrev spreading : ℕ → ℕ → ℕ → Spread
+spreading f n k = record { first = f; count = n; step = k }
 
 -- all are places of the side below
-pub falls_inside : (u : ℕ) (x : ℤ) (n m a : ℕ) → pos u -ℤ x ≡ pos a → a + n ≤ m → 1 ≤ n → Falls (spreading a n 1 true) u x n m
+pub falls_inside : (u : ℕ) (x : ℤ) (n m a : ℕ) → pos u -ℤ x ≡ pos a → a + n ≤ m → 1 ≤ n → Falls (spreading a n 1) u x n m
 falls_inside u x n m a e h some = record {
   side = λ i l. among_yes (pos (u + i) -ℤ x) (a + i) m (omega (arith, ints)) (omega arith);
   near = λ i l. near_yes (pos (u + i) -ℤ x) (a + i) m (omega (arith, ints)) (omega arith) ∙ omega arith;
@@ -41,7 +41,7 @@ falls_inside u x n m a e h some = record {
 }
 
 -- all lie before it
-pub falls_before : (u : ℕ) (x : ℤ) (n m : ℕ) → (pos (u + n) -ℤ x) ≤ℤ pos 0 → 1 ≤ m → Falls (spreading 0 1 0 false) u x n m
+pub falls_before : (u : ℕ) (x : ℤ) (n m : ℕ) → (pos (u + n) -ℤ x) ≤ℤ pos 0 → 1 ≤ m → Falls (spreading 0 1 0) u x n m
 falls_before u x n m h some = record {
   side = λ i l. among-before (pos (u + i) -ℤ x) m (omega (arith, ints));
   near = λ i l. near_before (pos (u + i) -ℤ x) m (omega (arith, ints)) ∙ omega arith;
@@ -53,7 +53,7 @@ falls_before u x n m h some = record {
 }
 
 -- all lie behind it
-pub falls_behind : (u : ℕ) (x : ℤ) (n m a : ℕ) → pos u -ℤ x ≡ pos a → m ≤ a → 1 ≤ m → Falls (spreading (m - 1) 1 0 false) u x n m
+pub falls_behind : (u : ℕ) (x : ℤ) (n m a : ℕ) → pos u -ℤ x ≡ pos a → m ≤ a → 1 ≤ m → Falls (spreading (m - 1) 1 0) u x n m
 falls_behind u x n m a e h some = record {
   side = λ i l. among-behind (pos (u + i) -ℤ x) (a + i) m (omega (arith, ints)) (omega arith);
   near = λ i l. near-behind (pos (u + i) -ℤ x) (a + i) m (omega (arith, ints)) (omega arith) ∙ omega arith;

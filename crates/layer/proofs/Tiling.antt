@@ -1,5 +1,5 @@
 -- A part in two pieces.
-use Rattle.std.proofs.Common.{◌≡◌, ℕ, ◌+◌, ◌-◌, ◌<◌, List, sym, refl, subst, arith}
+use Rattle.std.proofs.Common.{◌≡◌, ℕ, ◌+◌, ◌-◌, List, sym, refl, subst, arith}
 use Rattle.pixel.specs.Ops.{Ops}
 use Rattle.picture.specs.declared.rect.Rect.{Rect}
 use Rattle.picture.specs.declared.size.Size.{Size}
@@ -8,6 +8,9 @@ use Rattle.picture.specs.Images.{Image, Model}
 use Rattle.picture.specs.Steps.{Formula, formula}
 use Rattle.layer.specs.declared.layer.Layer.{Layer}
 use Rattle.layer.specs.Aims.{Ground, Needless}
+use Rattle.layer.specs.declared.cut.Cut.{Cut}
+use Rattle.layer.specs.declared.cut.Cut.TheVariants.{Across, Down}
+use Rattle.layer.specs.Cuts.{Above, Beside, Halves}
 use Rattle.layer.specs.Laid.{Laid, Part, Shows}
 use Rattle.layer.specs.Layers.{Kept}
 use Rattle.layer.specs.Standing.{Stands}
@@ -16,30 +19,6 @@ use Rattle.layer.proofs.Laying.{laid_above, laid_beside}
 laid_moved : (r : Rect) (x x' y y' w w' h h' : ℕ) (P : ℕ → ℕ → ℕ → Type 0) (t₀ t₁ : List ℕ) → x ≡ x' → y ≡ y' → w ≡ w' → h ≡ h' → Laid r x y w h P t₀ t₁ → Laid r x' y' w' h' P t₀ t₁
 laid_moved r x x' y y' w w' h h' P t₀ t₁ ex ey ew eh l =
     subst (λ (k : ℕ). Laid r x' y' w' k P t₀ t₁) eh (subst (λ (k : ℕ). Laid r x' y' k h P t₀ t₁) ew (subst (λ (k : ℕ). Laid r x' k w h P t₀ t₁) ey (subst (λ (k : ℕ). Laid r k y w h P t₀ t₁) ex l)))
-
--- n columns, and the others
-pub record Beside (p q s : Rect) (n : ℕ) : Type 0 where
-  pub less : n < p.width
-  pub left₁ : q.left ≡ p.left
-  pub top₁ : q.top ≡ p.top
-  pub width₁ : q.width ≡ n
-  pub height₁ : q.height ≡ p.height
-  pub left₂ : s.left ≡ p.left + n
-  pub top₂ : s.top ≡ p.top
-  pub width₂ : s.width ≡ p.width - n
-  pub height₂ : s.height ≡ p.height
-
--- n rows, and the others
-pub record Above (p q s : Rect) (n : ℕ) : Type 0 where
-  pub less : n < p.height
-  pub left₁ : q.left ≡ p.left
-  pub top₁ : q.top ≡ p.top
-  pub width₁ : q.width ≡ p.width
-  pub height₁ : q.height ≡ n
-  pub left₂ : s.left ≡ p.left
-  pub top₂ : s.top ≡ p.top + n
-  pub width₂ : s.width ≡ p.width
-  pub height₂ : s.height ≡ p.height - n
 
 module _ {K S : Type 0} (o : Ops K S) where
   pub shows_beside : (a b : Image K) (r p q s : Rect) (n : ℕ) (t₀ t₁ t₂ : List ℕ) → a ≡ b → Part r p → Beside p q s n → Shows o a r q t₀ t₁ → Shows o b r s t₁ t₂ → Shows o a r p t₀ t₂
@@ -57,6 +36,11 @@ module _ {K S : Type 0} (o : Ops K S) where
       (laid_above r p.left p.top p.width n (p.height - n) _ t₀ t₁ t₂ (record { left = k.left; top = k.top; right = k.right; bottom = omega (arith, k.bottom) })
       (laid_moved r _ _ _ _ _ _ _ _ _ t₀ t₁ c.left₁ c.top₁ c.width₁ c.height₁ one)
       (laid_moved r _ _ _ _ _ _ _ _ _ t₁ t₂ c.left₂ c.top₂ c.width₂ c.height₂ (subst (λ (i : Image K). Shows o i r s t₁ t₂) (sym e) two)))
+
+  -- both sides of a cut
+  pub shows_halves : (a b : Image K) (c : Cut) (r p q s : Rect) (t₀ t₁ t₂ : List ℕ) → a ≡ b → Part r p → Halves c p q s → Shows o a r q t₀ t₁ → Shows o b r s t₁ t₂ → Shows o a r p t₀ t₂
+  shows_halves a b (Across n) r p q s t₀ t₁ t₂ e k h = shows_beside a b r p q s n t₀ t₁ t₂ e k h
+  shows_halves a b (Down n) r p q s t₀ t₁ t₂ e k h = shows_above a b r p q s n t₀ t₁ t₂ e k h
 
   -- after what left the buffer as it was
   pub shows_after : (a b : Image K) (r p : Rect) (t₀ t₁ t₂ : List ℕ) → a ≡ b → t₁ ≡ t₀ → Shows o b r p t₁ t₂ → Shows o a r p t₀ t₂

@@ -1,5 +1,5 @@
 -- When a way to make a part makes what the formulas of its places ask for.
-use Rattle.std.specs.Prelude.{◌≡◌, ℕ, ◌+◌, ◌-◌, ◌*◌, ◌/◌, ◌%◌, ◌<◌, ◌≤◌, min, true, List, length, ℤ, pos, is_some, slice_index, slice_index_or}
+use Rattle.std.specs.Prelude.{◌≡◌, ℕ, ◌+◌, ◌-◌, ◌*◌, ◌/◌, ◌%◌, ◌<◌, ◌≤◌, min, true, List, length, ℤ, pos, is_some, slice_index, slice_index_or, Some, None, Option}
 use Rattle.picture.specs.Prepare.{area}
 use Rattle.pixel.specs.Ops.{Ops}
 use Rattle.picture.specs.declared.rect.Rect.{Rect}
@@ -144,14 +144,14 @@ abbrev pub weights_of : Mask → ℕ → ℤ
 weights_of m k = slice_index_or (kernel m).coefficients k (pos 0)
 
 -- each place of the part is made so, over a picture of W columns and H rows
-abbrev pub Aims : Aim → (ℕ → ℕ → Formula) → ℕ → ℕ → Rect → Type 0
-Aims aim.Black φ W H p = Each φ p (λ i j f. f ≡ black)
-Aims aim.White φ W H p = Each φ p (λ i j f. f ≡ white)
-Aims (aim.Copy c) φ W H p = Inside c.at W H × Each φ p (Carried c) × (p.width ≡ 1 → p.height ≡ 1 → area c.at ≡ 1) × Steady c
-Aims (aim.Mean l) φ W H p = Inside l.at W H × Each φ p (Mixed l ones (l.columns * l.rows) (pos 0)) × Fair l p
-Aims (aim.Masked l m) φ W H p = Inside l.at W H × Each φ p (Mixed l (weights_of m) (kernel m).scale (kernel m).offset) × Fair l p
+abbrev pub Aims : Option Aim → (ℕ → ℕ → Formula) → ℕ → ℕ → Rect → Type 0
+Aims (Some aim.Black) φ W H p = Each φ p (λ i j f. f ≡ black)
+Aims (Some aim.White) φ W H p = Each φ p (λ i j f. f ≡ white)
+Aims (Some (aim.Copy c)) φ W H p = Inside c.at W H × Each φ p (Carried c) × (p.width ≡ 1 → p.height ≡ 1 → area c.at ≡ 1) × Steady c
+Aims (Some (aim.Mean l)) φ W H p = Inside l.at W H × Each φ p (Mixed l ones (l.columns * l.rows) (pos 0)) × Fair l p
+Aims (Some (aim.Masked l m)) φ W H p = Inside l.at W H × Each φ p (Mixed l (weights_of m) (kernel m).scale (kernel m).offset) × Fair l p
 -- a single place lies across no edge, and a part that does needs something of below
-Aims aim.Edge φ W H p = (3 ≤ p.width + p.height) × (Needless φ p → ⊥)
+Aims None φ W H p = (3 ≤ p.width + p.height) × (Needless φ p → ⊥)
 
 module _ {K S : Type 0} (o : Ops K S) where
   -- the pixel of the k-th place of a window, by the codes of the region

@@ -5,6 +5,7 @@ pub mod Laid
 pub mod Cuts
 pub mod Standing
 pub mod Layers
+pub mod Told
 pub mod Asked
 pub mod Laws
 pub mod Placing

@@ -1,12 +1,12 @@
 -- How places of one side of a layer fall on the same side below.
-use Rattle.std.specs.Prelude.{◌≡◌, ℕ, ◌+◌, ◌-◌, ◌*◌, ◌<◌, ◌≤◌, min, Bool, true, false, not, ℤ, pos, ◌-ℤ◌, Some, None, Option}
+use Rattle.std.specs.Prelude.{◌≡◌, ℕ, ◌+◌, ◌-◌, ◌*◌, ◌<◌, ◌≤◌, min, Bool, true, false, not, ◌==◌, ℤ, pos, ◌-ℤ◌, Some, None, Option}
 use Rattle.picture.specs.Steps.{among, nearest}
 use Rattle.layer.specs.declared.spread.Spread.{Spread}
 use Rattle.layer.specs.declared.spread.Reach.{Reach}
 
 -- n places from u on of a side moved by x, over a side of m places
 pub record Falls (s : Spread) (u : ℕ) (x : ℤ) (n m : ℕ) : Type 0 where
-  pub side : (i : ℕ) → i < n → among (pos (u + i) -ℤ x) m ≡ s.inside
+  pub side : (i : ℕ) → i < n → among (pos (u + i) -ℤ x) m ≡ not (s.step == 0)
   pub near : (i : ℕ) → i < n → nearest (pos (u + i) -ℤ x) m ≡ s.first + i * s.step
   pub room : (i : ℕ) → i < n → i * s.step < s.count
   pub some : 1 ≤ s.count
@@ -35,4 +35,4 @@ pub record Reaches (r : Reach) (u n m : ℕ) : Type 0 where
 -- all of them lie beside the side below
 abbrev pub beside : Option Spread → Bool
 beside None = false
-beside (Some s) = not s.inside
+beside (Some s) = s.step == 0

@@ -23,7 +23,7 @@ pub(crate) struct Lens {
     pub above: u32,
 }
 
-/// How a part of a layer is made.
+/// How a part of a layer is made at once.
 #[derive(Clone, Copy)]
 pub(crate) enum Aim {
     /// Each place is black.
@@ -36,6 +36,4 @@ pub(crate) enum Aim {
     Mean(Lens),
     /// Each place is a window by a mask.
     Masked(Lens, Mask),
-    /// The part lies across an edge.
-    Edge,
 }

@@ -17,6 +17,6 @@ pub(crate) fn ask<P: Picture>(below: &mut P, at: Rect, codes: &mut [u64]) -> Res
     match below.prepare(at, codes) {
         Ok(()) => Ok(()),
         Err(Refusal::Hole(fault)) => Err(fault),
-        Err(_) => unreachable(),
+        Err(_) => unreachable!(),
     }
 }

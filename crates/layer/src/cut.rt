@@ -1,7 +1,6 @@
-/// How a part is cut in two, if it is.
+/// How a part is cut in two.
 #[derive(Clone, Copy)]
 pub(crate) enum Cut {
-    Whole,
     /// So many columns, and the others.
     Across(u32),
     /// So many rows, and the others.

@@ -1,7 +1,7 @@
-ghost use Rattle.std.specs.Prelude.{◌≡◌, ◌+◌, ◌<◌, ◌≤◌, true, unsigned_abs};
+ghost use Rattle.std.specs.Prelude.{◌≡◌, ◌+◌, ◌<◌, ◌≤◌, true, Some, unsigned_abs};
 ghost use Rattle.picture.specs.Limits.{largest};
 ghost use Rattle.picture.specs.Steps.{allowed};
-ghost use Rattle.layer.specs.Cuts.{Cuts, Within};
+ghost use Rattle.layer.specs.Cuts.{Cuts, Halves, Smaller, Within};
 
 use crate::cut::Cut;
 use crate::layer::ROOM;
@@ -9,7 +9,9 @@ use picture::{Rect, Size, Step};
 
 /// The first edge of what an embedding holds that lies among `count` places from `from` on.
 fn edge(from: u32, count: u32, offset: i32, side: u32) -> Option<u32>
-    requires { (from + count ≤ largest) × ((unsigned_abs offset ≤ largest) × (side ≤ largest)) }
+    requires near { unsigned_abs offset ≤ largest }
+    requires within { from + count ≤ largest }
+    requires limit { side ≤ largest }
     ensures { Within result count }
 {
     let near = offset - from as i32;
@@ -23,47 +25,87 @@ fn edge(from: u32, count: u32, offset: i32, side: u32) -> Option<u32>
     }
 }
 
-/// How many places below a part of such sides needs, about.
-fn needs(step: Step, wide: u32, high: u32) -> u64
-    requires { (allowed step ≡ true) × ((wide ≤ largest) × (high ≤ largest)) }
+/// How many places below a part needs, about.
+fn needs(step: Step, part: Rect) -> u64
+    requires { allowed step ≡ true }
 {
     let (wide, high) = match step {
-        Step::Shrink { across, down } => (wide * across, high * down),
-        Step::Conv(_) => (wide + 2, high + 2),
-        _ => (wide, high),
+        Step::Shrink { across, down } => (part.width * across, part.height * down),
+        Step::Conv(_) => (part.width + 2, part.height + 2),
+        _ => (part.width, part.height),
     };
     wide as u64 * high as u64
 }
 
 /// Halves the longer side of a part, unless it is a single place.
-fn halved(part: Rect) -> Cut
+fn halved(part: Rect) -> Option<Cut>
     ensures { Cuts result part }
 {
     if part.width >= part.height && part.width >= 2 {
-        Cut::Across(part.width / 2)
+        Some(Cut::Across(part.width / 2))
     } else if part.height >= 2 {
-        Cut::Down(part.height / 2)
+        Some(Cut::Down(part.height / 2))
     } else {
-        Cut::Whole
+        None
     }
 }
 
 /// Cuts a part at the edges of what an embedding holds, and in halves where it needs more than there is room for.
-pub(crate) fn cut(step: Step, size: Size, part: Rect) -> Cut
+pub(crate) fn cut(step: Step, size: Size, part: Rect) -> Option<Cut>
     requires { allowed step ≡ true }
     ensures { Cuts result part }
 {
     if let Step::Embed { x, y, .. } = step {
         if let Some(n) = edge(part.left, part.width, x, size.width) {
-            return Cut::Across(n);
+            return Some(Cut::Across(n));
         }
         if let Some(n) = edge(part.top, part.height, y, size.height) {
-            return Cut::Down(n);
+            return Some(Cut::Down(n));
         }
     }
-    if needs(step, part.width, part.height) > ROOM as u64 {
+    if needs(step, part) > ROOM as u64 {
         halved(part)
     } else {
-        Cut::Whole
+        None
+    }
+}
+
+impl Cut {
+    /// Both sides of the cut.
+    pub fn halves(self, part: Rect) -> (Rect, Rect)
+        requires { Cuts (Some self) part }
+        ensures cut { Halves self part result.0 result.1 }
+        ensures smaller { Smaller part result.0 result.1 }
+    {
+        match self {
+            Cut::Across(n) => (
+                Rect {
+                    left: part.left,
+                    top: part.top,
+                    width: n,
+                    height: part.height,
+                },
+                Rect {
+                    left: part.left + n,
+                    top: part.top,
+                    width: part.width - n,
+                    height: part.height,
+                },
+            ),
+            Cut::Down(n) => (
+                Rect {
+                    left: part.left,
+                    top: part.top,
+                    width: part.width,
+                    height: n,
+                },
+                Rect {
+                    left: part.left,
+                    top: part.top + n,
+                    width: part.width,
+                    height: part.height - n,
+                },
+            ),
+        }
     }
 }

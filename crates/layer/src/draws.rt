@@ -1,15 +1,15 @@
-ghost use Rattle.std.specs.Prelude.{◌≡◌, ℕ, ◌+◌, ◌-◌, ◌*◌, ◌<◌, ◌≤◌, List, length, drop, slice_index, unsigned_abs};
+ghost use Rattle.std.specs.Prelude.{◌≡◌, ℕ, ◌+◌, ◌-◌, ◌*◌, ◌<◌, ◌≤◌, List, length, slice_index};
 ghost use Rattle.picture.specs.Compose.{summed};
+ghost use Rattle.picture.specs.Limits.{largest};
 ghost use Rattle.picture.specs.Prepare.{area};
 ghost use Rattle.layer.specs.Aims.{Readable, Steady, lens_pixel, walked};
-ghost use Rattle.layer.specs.Laid.{Laid, Part};
+ghost use Rattle.layer.specs.Laid.{Laid};
 
-use crate::aim::{Carry, Lens};
-use crate::mix::mix;
+use crate::aim::Carry;
+use crate::blended::Blended;
+use crate::piece::Piece;
 use crate::weights::Weights;
-use picture::Rect;
 use pixel::Kind;
-use std::marker::PhantomData;
 
 /// How the codes of a region make the place (i, j) of a part.
 pub(crate) trait Draw {
@@ -50,63 +50,36 @@ impl Draw for Plain {
     }
 }
 
-/// Each place is a window by these weights.
-#[derive(Clone, Copy)]
-pub(crate) struct Blended<K, W> {
-    pub lens: Lens,
-    pub weights: W,
-    pub scale: u32,
-    pub offset: i32,
-    pub maxval: u16,
-    pub kind: PhantomData<K>,
-}
-
 impl<K: Kind, W: Weights> Draw for Blended<K, W> {
-    ghost drawn = { λ b codes i j. K.ops.code (K.ops.finish (summed K.ops (lens_pixel K.ops codes b.lens i j) (W.weighs b.weights) (b.lens.columns * b.lens.rows)) b.scale b.offset b.maxval) };
+    ghost drawn = { λ b codes i j. K.ops.code (K.ops.finish (summed K.ops (lens_pixel K.ops codes b.lens i j) (W.weighs b.filter.weights) (b.lens.columns * b.lens.rows)) b.filter.scale b.filter.offset b.maxval) };
 
-    ghost can = { λ b codes i j. Readable K.ops codes b.lens i j × ((k : ℕ) → unsigned_abs (W.weighs b.weights k) ≤ 256) × (1 ≤ b.scale) };
+    ghost can = { λ b codes i j. Readable K.ops codes b.lens i j };
 
     fn draw(&self, codes: &[u64], i: u32, j: u32) -> u64 {
-        let pixel: K = mix(
-            codes,
-            self.lens,
-            &self.weights,
-            self.scale,
-            self.offset,
-            self.maxval,
-            i,
-            j,
-        );
-        pixel.code()
+        self.mix(codes, i, j).code()
     }
 }
 
-/// Writes row `j` of a part into its places of the rectangle's buffer.
-fn lay_row<D: Draw>(draw: &D, codes: &[u64], rect: Rect, part: Rect, j: u32, buffer: &mut [u64])
-    requires part { Part rect part }
-    requires row { j < part.height }
-    requires can { (i : ℕ) → i < part.width → D.can draw.now codes.now i j }
-    requires room { area rect ≤ length buffer.old }
-    ensures laid { Laid rect part.left (part.top + j) part.width 1 (λ u v c. c ≡ D.drawn draw.now codes.now (u - part.left) (v - part.top)) buffer.old buffer.new }
-    ensures rest { drop (area rect) buffer.new ≡ drop (area rect) buffer.old }
+/// Writes the places of row `j` of a part.
+fn lay_row<D: Draw>(draw: &D, codes: &[u64], j: u32, row: &mut [u64])
+    requires can { (i : ℕ) → i < length row.old → D.can draw.now codes.now i j }
+    requires wide { length row.old ≤ largest }
+    ensures { (i : ℕ) → i < length row.old → slice_index row.new i ≡ D.drawn draw.now codes.now i j }
 {
-    let wide = part.width;
-    let above = (part.top - rect.top + j) as usize * rect.width as usize;
-    for i in 0..wide {
-        buffer[above + (part.left - rect.left + i) as usize] = draw.draw(codes, i, j);
+    for (i, code) in row.iter_mut().enumerate() {
+        *code = draw.draw(codes, i as u32, j);
     }
 }
 
 /// Writes a part into its places of the rectangle's buffer.
-pub(crate) fn lay<D: Draw>(draw: &D, codes: &[u64], rect: Rect, part: Rect, buffer: &mut [u64])
-    requires part { Part rect part }
-    requires can { (i j : ℕ) → i < part.width → j < part.height → D.can draw.now codes.now i j }
-    requires room { area rect ≤ length buffer.old }
-    ensures laid { Laid rect part.left part.top part.width part.height (λ u v c. c ≡ D.drawn draw.now codes.now (u - part.left) (v - part.top)) buffer.old buffer.new }
-    ensures rest { drop (area rect) buffer.new ≡ drop (area rect) buffer.old }
+pub(crate) fn lay<D: Draw>(draw: &D, codes: &[u64], piece: Piece, buffer: &mut [u64])
+    requires can { (i j : ℕ) → i < piece.part.width → j < piece.part.height → D.can draw.now codes.now i j }
+    requires room { length buffer.old ≡ area piece.whole }
+    ensures { Laid piece.whole piece.part.left piece.part.top piece.part.width piece.part.height (λ u v c. c ≡ D.drawn draw.now codes.now (u - piece.part.left) (v - piece.part.top)) buffer.old buffer.new }
 {
-    let high = part.height;
-    for j in 0..high {
-        lay_row(draw, codes, rect, part, j, buffer);
+    let wide = piece.part.width as usize;
+    for j in 0..piece.part.height {
+        let from = piece.row(j);
+        lay_row(draw, codes, j, &mut buffer[from..from + wide]);
     }
 }

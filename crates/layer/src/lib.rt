@@ -5,7 +5,7 @@
 mod aim;
 mod aims;
 mod ask;
-mod blend;
+mod blended;
 mod cut;
 mod cuts;
 mod draws;
@@ -15,11 +15,14 @@ mod making;
 mod masks;
 mod mix;
 mod parts;
+mod piece;
+mod pieces;
 mod places;
 mod showing;
 mod spread;
 mod spreads;
 mod tiles;
+mod undrawn;
 mod weights;
 
 pub use laws::{first_hole_told, region_decides};

@@ -1,5 +1,5 @@
-ghost use Rattle.std.specs.Prelude.{◌≡◌, true};
-ghost use Rattle.picture.specs.Steps.{allowed, factor, fitting, height_of, side, width_of};
+ghost use Rattle.std.specs.Prelude.{◌≡◌, true, ◌&&◌, nat_le};
+ghost use Rattle.picture.specs.Steps.{allowed, fitting, height_of, width_of};
 ghost use Rattle.layer.specs.Layers.{Made};
 
 use crate::layer::{Layer, ROOM};
@@ -9,16 +9,11 @@ use pixel::Kind;
 /// The largest factor of a shrink.
 const FACTOR: u32 = 64;
 
-fn is_side(number: u32) -> bool
-    ensures { result ≡ side number }
+/// Whether a number is at least 1 and at most the limit.
+fn is_within(number: u32, limit: u32) -> bool
+    ensures { result ≡ (nat_le 1 number && nat_le number limit) }
 {
-    1 <= number && number <= LIMIT
-}
-
-fn is_factor(number: u32) -> bool
-    ensures { result ≡ factor number }
-{
-    1 <= number && number <= FACTOR
+    (1..=limit).contains(&number)
 }
 
 /// Whether the step's own numbers are within their limits.
@@ -32,7 +27,9 @@ fn is_allowed(step: Step) -> bool
             top,
             width,
             height,
-        } => left <= LIMIT && top <= LIMIT && is_side(width) && is_side(height),
+        } => {
+            left <= LIMIT && top <= LIMIT && is_within(width, LIMIT) && is_within(height, LIMIT)
+        }
         Step::Embed {
             x,
             y,
@@ -42,10 +39,10 @@ fn is_allowed(step: Step) -> bool
         } => {
             x.unsigned_abs() <= LIMIT
                 && y.unsigned_abs() <= LIMIT
-                && is_side(width)
-                && is_side(height)
+                && is_within(width, LIMIT)
+                && is_within(height, LIMIT)
         }
-        Step::Shrink { across, down } => is_factor(across) && is_factor(down),
+        Step::Shrink { across, down } => is_within(across, FACTOR) && is_within(down, FACTOR),
     }
 }
 
@@ -66,29 +63,24 @@ fn is_fitting(step: Step, size: Size) -> bool
     }
 }
 
-/// The width of what the step shows.
-pub(crate) fn width_of(step: Step, size: Size) -> u32
-    requires { allowed step ≡ true }
-    ensures { result ≡ width_of step size.width size.height }
+/// The size of what the step shows over a picture of this size.
+pub(crate) fn size_over(step: Step, size: Size) -> Size
+    requires allowed { allowed step ≡ true }
+    requires fits { fitting step size.width size.height ≡ true }
+    ensures width { result.width ≡ width_of step size.width size.height }
+    ensures height { result.height ≡ height_of step size.width size.height }
+    ensures maxval { result.maxval ≡ size.maxval }
 {
-    match step {
-        Step::Crop { width, .. } | Step::Embed { width, .. } => width,
-        Step::Shrink { across, .. } => size.width / across,
-        Step::Rot(_) => size.height,
-        Step::Same | Step::Flip(_) | Step::Conv(_) => size.width,
-    }
-}
-
-/// The height of what the step shows.
-pub(crate) fn height_of(step: Step, size: Size) -> u32
-    requires { allowed step ≡ true }
-    ensures { result ≡ height_of step size.width size.height }
-{
-    match step {
-        Step::Crop { height, .. } | Step::Embed { height, .. } => height,
-        Step::Shrink { down, .. } => size.height / down,
-        Step::Rot(_) => size.width,
-        Step::Same | Step::Flip(_) | Step::Conv(_) => size.height,
+    let (width, height) = match step {
+        Step::Crop { width, height, .. } | Step::Embed { width, height, .. } => (width, height),
+        Step::Shrink { across, down } => (size.width / across, size.height / down),
+        Step::Rot(_) => (size.height, size.width),
+        Step::Same | Step::Flip(_) | Step::Conv(_) => (size.width, size.height),
+    };
+    Size {
+        width,
+        height,
+        maxval: size.maxval,
     }
 }
 

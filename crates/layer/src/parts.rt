@@ -1,82 +1,72 @@
-ghost use Rattle.std.specs.Prelude.{◌≡◌, ℕ, ◌+◌, ◌-◌, ◌<◌, ◌≤◌, true, false, List, length, drop, Some, unsigned_abs};
+ghost use Rattle.std.specs.Prelude.{◌≡◌, ℕ, ◌-◌, ◌<◌, ◌≤◌, List, length, Ok, Err, Some};
 ghost use Rattle.picture.specs.Compose.{taken};
-ghost use Rattle.picture.specs.Prepare.{Shown, area, coded, nth};
+ghost use Rattle.picture.specs.Prepare.{Shown, area, coded, first_in, nth};
 ghost use Rattle.picture.specs.Steps.{Formula, formula};
-ghost use Rattle.layer.specs.Aims.{Few, Inside, Mixed, Needless};
-ghost use Rattle.layer.specs.Laid.{Laid, Part, Shows};
-ghost use Rattle.layer.specs.Layers.{Kept, model_of, raised};
+ghost use Rattle.layer.specs.Aims.{Fair, Inside, Mixed, Needless};
+ghost use Rattle.layer.specs.Laid.{Laid, Shows};
+ghost use Rattle.layer.specs.Layers.{Kept, located, model_of, raised};
+ghost use Rattle.layer.specs.Told.{Told};
 
 use crate::aim::{Aim, Lens};
 use crate::aims::aim;
 use crate::ask::ask;
-use crate::draws::{Blended, Draw, Plain, lay};
+use crate::blended::Blended;
+use crate::draws::{Draw, Plain, lay};
 use crate::layer::Layer;
 use crate::masks::of_mask;
-use crate::weights::{Ones, Weights};
+use crate::piece::Piece;
+use crate::undrawn::Undrawn;
+use crate::weights::{Filter, Ones, Weights};
 use picture::{Picture, Rect};
 use pixel::Kind;
 use std::marker::PhantomData;
 
-/// Draws a part from a region below that is prepared at once; or it says no, if there is no room for the region or a hole in it.
+/// Draws a part from a region below that is prepared at once.
 fn draw_part<P: Picture, D: Draw>(
     below: &mut P,
     at: Rect,
     draw: &D,
     codes: &mut [u64],
-    rect: Rect,
-    part: Rect,
+    piece: Piece,
     buffer: &mut [u64],
-) -> bool
+) -> Result<(), Undrawn>
     requires inside { Inside at (P.model below.old).shown.width (P.model below.old).shown.height }
-    requires part { Part rect part }
-    requires can { (codes : List ℕ) → area at ≤ length codes → Shown P.Pixel.ops (nth (P.model below.old).shown at) (area at) codes → (i j : ℕ) → i < part.width → j < part.height → D.can draw.now codes i j }
-    requires room { area rect ≤ length buffer.old }
-    ensures laid { result ≡ true → (codes : List ℕ) × Shown P.Pixel.ops (nth (P.model below.old).shown at) (area at) codes × Laid rect part.left part.top part.width part.height (λ u v c. c ≡ D.drawn draw.now codes (u - part.left) (v - part.top)) buffer.old buffer.new }
-    ensures spared { result ≡ false → buffer.new ≡ buffer.old }
-    ensures rest { drop (area rect) buffer.new ≡ drop (area rect) buffer.old }
+    requires can { (codes : List ℕ) → area at ≤ length codes → Shown P.Pixel.ops (nth (P.model below.old).shown at) (area at) codes → (i j : ℕ) → i < piece.part.width → j < piece.part.height → D.can draw.now codes i j }
+    requires room { length buffer.old ≡ area piece.whole }
+    ensures laid { result ≡ Ok tt → (codes : List ℕ) × Shown P.Pixel.ops (nth (P.model below.old).shown at) (area at) codes × Laid piece.whole piece.part.left piece.part.top piece.part.width piece.part.height (λ u v c. c ≡ D.drawn draw.now codes (u - piece.part.left) (v - piece.part.top)) buffer.old buffer.new }
+    ensures spared { (e : Undrawn) → result ≡ Err e → buffer.new ≡ buffer.old }
+    ensures told { area at ≤ length codes.old → Told result (first_in (nth (P.model below.old).shown at) (area at)) }
     ensures keeps { P.model below.new ≡ P.model below.old }
     ensures counts { (n : ℕ) × (P.count below.new ≡ raised n (P.count below.old)) }
 {
     if at.area() > codes.len() {
-        return false;
+        return Err(Undrawn::Uncut);
     }
-    match ask(below, at, codes) {
-        Ok(()) => {
-            lay(draw, codes, rect, part, buffer);
-            true
-        }
-        Err(_) => false,
-    }
+    ask(below, at, codes)?;
+    lay(draw, codes, piece, buffer);
+    Ok(())
 }
 
 impl<P: Picture> Layer<P> {
-    /// A part whose places are windows by these weights, from one prepare below; or it says no.
+    /// A part whose places are windows through this filter, from one prepare below.
     fn blend_part<W: Weights>(
         &mut self,
         lens: Lens,
-        weights: W,
-        scale: u32,
-        offset: i32,
-        rect: Rect,
-        part: Rect,
+        filter: Filter<W>,
+        piece: Piece,
         buffer: &mut [u64],
-    ) -> bool
+    ) -> Result<(), Undrawn>
         requires inside { Inside lens.at self.old.size.width self.old.size.height }
-        requires few { Few lens }
-        requires light { (k : ℕ) → unsigned_abs (W.weighs weights k) ≤ 256 }
-        requires scale { 1 ≤ scale }
-        requires part { Part rect part }
-        requires room { area rect ≤ length buffer.old }
-        ensures laid { result ≡ true → Laid rect part.left part.top part.width part.height (λ u v c. (φ : Formula) → Mixed lens (W.weighs weights) scale offset (u - part.left) (v - part.top) φ → coded P.Pixel.ops (taken P.Pixel.ops (P.model self.old.below).shown.maxval (P.model self.old.below).shown.at φ) ≡ Some c) buffer.old buffer.new }
-        ensures spared { result ≡ false → buffer.new ≡ buffer.old }
-        ensures rest { drop (area rect) buffer.new ≡ drop (area rect) buffer.old }
+        requires fair { Fair lens piece.part }
+        requires room { length buffer.old ≡ area piece.whole }
+        ensures laid { result ≡ Ok tt → Laid piece.whole piece.part.left piece.part.top piece.part.width piece.part.height (λ u v c. (φ : Formula) → Mixed lens (W.weighs filter.weights) filter.scale filter.offset (u - piece.part.left) (v - piece.part.top) φ → coded P.Pixel.ops (taken P.Pixel.ops (P.model self.old.below).shown.maxval (P.model self.old.below).shown.at φ) ≡ Some c) buffer.old buffer.new }
+        ensures spared { (e : Undrawn) → result ≡ Err e → buffer.new ≡ buffer.old }
+        ensures told { piece.part.width ≡ 1 → piece.part.height ≡ 1 → (φ : Formula) → Mixed lens (W.weighs filter.weights) filter.scale filter.offset 0 0 φ → Told result (located P.Pixel.ops (taken P.Pixel.ops (P.model self.old.below).shown.maxval (P.model self.old.below).shown.at φ)) }
         ensures kept { Kept P.Pixel.ops P.model P.count self.old self.new }
     {
         let blended: Blended<P::Pixel, W> = Blended {
             lens,
-            weights,
-            scale,
-            offset,
+            filter,
             maxval: self.size.maxval,
             kind: PhantomData,
         };
@@ -85,55 +75,55 @@ impl<P: Picture> Layer<P> {
             lens.at,
             &blended,
             &mut self.scratch,
-            rect,
-            part,
+            piece,
             buffer,
         )
     }
 
-    /// A part at once, or it says no.
-    pub(crate) fn block(&mut self, rect: Rect, part: Rect, buffer: &mut [u64]) -> bool
-        requires part { Part rect part }
-        requires across { rect.left + rect.width ≤ (model_of P.Pixel.ops P.model self.old).shown.width }
-        requires down { rect.top + rect.height ≤ (model_of P.Pixel.ops P.model self.old).shown.height }
-        requires room { area rect ≤ length buffer.old }
-        ensures laid { result ≡ true → Shows P.Pixel.ops (model_of P.Pixel.ops P.model self.old).shown rect part buffer.old buffer.new }
-        ensures spared { result ≡ false → buffer.new ≡ buffer.old }
-        ensures rest { drop (area rect) buffer.new ≡ drop (area rect) buffer.old }
+    /// A part at once; where that part is a single place, nothing but a hole refuses it.
+    pub(crate) fn block(&mut self, piece: Piece, buffer: &mut [u64]) -> Result<(), Undrawn>
+        requires inside { Inside piece.whole (model_of P.Pixel.ops P.model self.old).shown.width (model_of P.Pixel.ops P.model self.old).shown.height }
+        requires room { length buffer.old ≡ area piece.whole }
+        ensures laid { result ≡ Ok tt → Shows P.Pixel.ops (model_of P.Pixel.ops P.model self.old).shown piece.whole piece.part buffer.old buffer.new }
+        ensures spared { (e : Undrawn) → result ≡ Err e → buffer.new ≡ buffer.old }
+        ensures told { piece.part.width ≡ 1 → piece.part.height ≡ 1 → Told result (located P.Pixel.ops ((model_of P.Pixel.ops P.model self.old).shown.at piece.part.left piece.part.top)) }
         ensures kept { Kept P.Pixel.ops P.model P.count self.old self.new }
-        ensures quiet { Needless (formula self.old.step self.old.size.width self.old.size.height) part → (result ≡ true) × (P.count self.new.below ≡ P.count self.old.below) }
+        ensures drawn { Needless (formula self.old.step self.old.size.width self.old.size.height) piece.part → result ≡ Ok tt }
+        ensures quiet { Needless (formula self.old.step self.old.size.width self.old.size.height) piece.part → P.count self.new.below ≡ P.count self.old.below }
     {
-        match aim(self.step, self.size, part) {
+        let Some(aim) = aim(self.step, self.size, piece.part) else {
+            return Err(Undrawn::Uncut);
+        };
+        match aim {
             Aim::Black => {
                 let pixel: P::Pixel = Kind::black();
                 let plain = Plain { code: pixel.code() };
-                lay(&plain, &self.scratch, rect, part, buffer);
-                true
+                lay(&plain, &self.scratch, piece, buffer);
+                Ok(())
             }
             Aim::White => {
                 let pixel: P::Pixel = Kind::white(self.size.maxval);
                 let plain = Plain { code: pixel.code() };
-                lay(&plain, &self.scratch, rect, part, buffer);
-                true
+                lay(&plain, &self.scratch, piece, buffer);
+                Ok(())
             }
             Aim::Copy(carry) => draw_part(
                 &mut self.below,
                 carry.at,
                 &carry,
                 &mut self.scratch,
-                rect,
-                part,
+                piece,
                 buffer,
             ),
             Aim::Mean(lens) => {
-                let scale = lens.columns * lens.rows;
-                self.blend_part(lens, Ones, scale, 0, rect, part, buffer)
+                let filter = Filter {
+                    weights: Ones,
+                    scale: lens.columns * lens.rows,
+                    offset: 0,
+                };
+                self.blend_part(lens, filter, piece, buffer)
             }
-            Aim::Masked(lens, mask) => {
-                let mask = of_mask(mask);
-                self.blend_part(lens, mask, mask.scale, mask.offset, rect, part, buffer)
-            }
-            Aim::Edge => false,
+            Aim::Masked(lens, mask) => self.blend_part(lens, of_mask(mask), piece, buffer),
         }
     }
 }

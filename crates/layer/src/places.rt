@@ -1,13 +1,10 @@
 ghost use Rattle.std.specs.Prelude.{◌≡◌, ◌<◌};
 ghost use Rattle.layer.specs.Layers.{Kept, located, model_of};
 
-use crate::aim::Aim;
-use crate::aims::{aim, rect};
-use crate::blend::{blend, single};
 use crate::layer::Layer;
-use crate::masks::of_mask;
-use crate::weights::Ones;
-use picture::{Fault, Picture};
+use crate::piece::Piece;
+use crate::undrawn::Undrawn;
+use picture::{Fault, Picture, Rect};
 use pixel::Kind;
 
 impl<P: Picture> Layer<P> {
@@ -18,39 +15,17 @@ impl<P: Picture> Layer<P> {
         ensures answer { result ≡ located P.Pixel.ops ((model_of P.Pixel.ops P.model self.old).shown.at u v) }
         ensures kept { Kept P.Pixel.ops P.model P.count self.old self.new }
     {
-        let maxval = self.size.maxval;
-        match aim(self.step, self.size, rect(u, v, 1, 1)) {
-            Aim::Black => {
-                let pixel: P::Pixel = Kind::black();
-                Ok(pixel.code())
-            }
-            Aim::White => {
-                let pixel: P::Pixel = Kind::white(maxval);
-                Ok(pixel.code())
-            }
-            Aim::Copy(carry) => single(&mut self.below, carry, &mut self.scratch),
-            Aim::Mean(lens) => blend(
-                &mut self.below,
-                lens,
-                &Ones,
-                lens.columns * lens.rows,
-                0,
-                maxval,
-                &mut self.scratch,
-            ),
-            Aim::Masked(lens, mask) => {
-                let mask = of_mask(mask);
-                blend(
-                    &mut self.below,
-                    lens,
-                    &mask,
-                    mask.scale,
-                    mask.offset,
-                    maxval,
-                    &mut self.scratch,
-                )
-            }
-            Aim::Edge => unreachable(),
+        let whole = Rect {
+            left: u,
+            top: v,
+            width: 1,
+            height: 1,
+        };
+        let mut code = [0];
+        match self.block(Piece { whole, part: whole }, &mut code) {
+            Ok(()) => Ok(code[0]),
+            Err(Undrawn::Hole(fault)) => Err(fault),
+            Err(Undrawn::Uncut) => unreachable!(),
         }
     }
 }

@@ -9,7 +9,8 @@ ghost use Rattle.layer.specs.Placing.{kept-none, kept_follows, kept_shows, stood
 ghost use Rattle.layer.specs.Bounding.{sized_step, bounded_step, composed-step};
 
 use crate::layer::Layer;
-use crate::making::{height_of, width_of};
+use crate::making::size_over;
+use crate::piece::Piece;
 use picture::{Fault, Picture, Rect, Refusal, Rows, Size, serve};
 use pixel::Kind;
 
@@ -27,11 +28,8 @@ impl<P: Picture> Rows for Layer<P> {
     ghost shows = { λ p q a. ap (λ m. m.shown) (kept_shows P.Pixel.ops P.model P.count p q a) };
 
     fn row(&mut self, left: u32, row: u32, out: &mut [u64]) -> Result<(), Fault> {
-        for k in 0..out.len() {
-            match self.place(left + k as u32, row) {
-                Ok(code) => out[k] = code,
-                Err(fault) => return Err(fault),
-            }
+        for (k, code) in out.iter_mut().enumerate() {
+            *code = self.place(left + k as u32, row)?;
         }
         Ok(())
     }
@@ -44,18 +42,22 @@ impl<P: Picture> Layer<P> {
         ensures asked { Asked (formula self.old.step (P.model self.old.below).shown.width (P.model self.old.below).shown.height) rect (outcome result) (P.count self.old.below) (P.count self.new.below) }
     {
         self.count = self.count.saturating_add(1);
-        let wide = width_of(self.step, self.size);
-        let high = height_of(self.step, self.size);
-        if rect.left + rect.width > wide || rect.top + rect.height > high {
+        let size = size_over(self.step, self.size);
+        if rect.left + rect.width > size.width || rect.top + rect.height > size.height {
             return Err(Refusal::NotInside);
         }
-        if rect.area() > buffer.len() {
+        let n = rect.area();
+        if n > buffer.len() {
             return Err(Refusal::BufferTooShort);
         }
-        if self.tile(rect, rect, buffer) {
+        let piece = Piece {
+            whole: rect,
+            part: rect,
+        };
+        if self.tile(piece, &mut buffer[..n]).is_ok() {
             return Ok(());
         }
-        serve(self, wide, high, rect, buffer)
+        serve(self, size.width, size.height, rect, buffer)
     }
 }
 
@@ -80,11 +82,7 @@ impl<P: Picture> Picture for Layer<P> {
     ghost composed = { λ l. composed-step P.Pixel.ops l.step (P.model l.below) (P.composed l.below) };
 
     fn size(&self) -> Size {
-        Size {
-            width: width_of(self.step, self.size),
-            height: height_of(self.step, self.size),
-            maxval: self.size.maxval,
-        }
+        size_over(self.step, self.size)
     }
 
     fn prepare(&mut self, rect: Rect, buffer: &mut [u64]) -> Result<(), Refusal> {

@@ -6,8 +6,11 @@ use crate::spread::{Reach, Spread};
 
 /// How `count` places from `from` on fall on a side below that an embedding moves by `offset`; nothing, if they fall on both sides of an edge.
 pub(crate) fn spread(from: u32, offset: i32, count: u32, side: u32) -> Option<Spread>
-    requires limits { (unsigned_abs offset ≤ largest) × ((from + count ≤ largest) × (side ≤ largest)) }
-    requires some { (1 ≤ count) × (1 ≤ side) }
+    requires near { unsigned_abs offset ≤ largest }
+    requires within { from + count ≤ largest }
+    requires some { 1 ≤ count }
+    requires any { 1 ≤ side }
+    requires limit { side ≤ largest }
     ensures { Spreads result from offset count side }
 {
     let start = from as i32 - offset;
@@ -17,21 +20,18 @@ pub(crate) fn spread(from: u32, offset: i32, count: u32, side: u32) -> Option<Sp
             first: start as u32,
             count,
             step: 1,
-            inside: true,
         })
     } else if end <= 0 {
         Some(Spread {
             first: 0,
             count: 1,
             step: 0,
-            inside: false,
         })
     } else if start >= side as i32 {
         Some(Spread {
             first: side - 1,
             count: 1,
             step: 0,
-            inside: false,
         })
     } else {
         None
@@ -41,7 +41,8 @@ pub(crate) fn spread(from: u32, offset: i32, count: u32, side: u32) -> Option<Sp
 /// What the masks of `count` places from `from` on reach.
 pub(crate) fn reach(from: u32, count: u32, side: u32) -> Reach
     requires some { 1 ≤ count }
-    requires limits { (from + count ≤ side) × (side ≤ largest) }
+    requires within { from + count ≤ side }
+    requires limit { side ≤ largest }
     ensures { Reaches result from count side }
 {
     let first = from.saturating_sub(1);

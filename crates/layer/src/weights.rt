@@ -1,6 +1,4 @@
-ghost use Rattle.std.specs.Prelude.{◌≡◌, ℕ, ℤ, pos, slice_index_or};
-
-use crate::masks::Stencil;
+ghost use Rattle.std.specs.Prelude.{◌≡◌, ℕ, ℤ, ◌≤◌, pos, slice_index_or, unsigned_abs};
 
 /// The weights of a window, in reading order.
 pub(crate) trait Weights: Copy {
@@ -22,10 +20,21 @@ impl Weights for Ones {
     }
 }
 
-impl Weights for Stencil {
-    ghost weighs = { λ s k. slice_index_or s.weights k (pos 0) };
+impl Weights for [i32; 9] {
+    ghost weighs = { λ s k. slice_index_or s k (pos 0) };
 
     fn weight(&self, index: usize) -> i32 {
-        if index < 9 { self.weights[index] } else { 0 }
+        self.get(index).copied().unwrap_or(0)
     }
+}
+
+/// What becomes of a window: its places are weighed, their sum is divided by `scale`, and `offset` is added.
+#[derive(Drop)]
+pub(crate) struct Filter<W: Weights> {
+    pub weights: W,
+    pub scale: u32,
+    pub offset: i32,
+    // no weight is heavy
+    ghost light: { (k : ℕ) → unsigned_abs (W.weighs weights k) ≤ 256 },
+    ghost scaled: { 1 ≤ scale },
 }

@@ -5,9 +5,9 @@ use Rattle.layer.proofs.aims.flipped.Goals as goal
 pub returns-in-Horizontal : goal.returns-in-Horizontal
 returns-in-Horizontal c =
     as_flips _ _ _ _ _ _ c.in-Horizontal.is
-    (copies_mirrored _ c.args.wide c.args.high c.args.part c.requires.inside.0 c.requires.inside.1 c.rect.ensures.left c.rect.ensures.top c.rect.ensures.width c.rect.ensures.height refl refl refl refl refl)
+    (copies_mirrored _ c.args.size.width c.args.size.height c.args.part c.requires.across c.requires.down refl refl refl refl refl refl refl refl refl)
 
 pub returns-in-Vertical : goal.returns-in-Vertical
 returns-in-Vertical c =
     as_flips _ _ _ _ _ _ c.in-Vertical.is
-    (copies_upturned _ c.args.wide c.args.high c.args.part c.requires.inside.0 c.requires.inside.1 c.rect-in-Vertical.ensures.left c.rect-in-Vertical.ensures.top c.rect-in-Vertical.ensures.width c.rect-in-Vertical.ensures.height refl refl refl refl refl)
+    (copies_upturned _ c.args.size.width c.args.size.height c.args.part c.requires.across c.requires.down refl refl refl refl refl refl refl refl refl)

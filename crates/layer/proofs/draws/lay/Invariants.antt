@@ -1,9 +1,7 @@
-use Rattle.std.proofs.Common.{◌≡◌, ◌-◌, drop}
-use Rattle.picture.specs.Prepare.{area}
+use Rattle.std.proofs.Common.{◌≡◌, ◌-◌}
 use Rattle.layer.specs.Laid.{Laid}
 use Rattle.layer.proofs.draws.lay.Given as goal
 
 abbrev pub invariant-loop-j : goal.invariant-loop-j
 invariant-loop-j g l =
-    Laid l.rect l.part.left l.part.top l.part.width l.j (λ u v c. c ≡ g.D.Draw.drawn l.draw l.codes (u - l.part.left) (v - l.part.top)) l.initial.buffer l.buffer
-    × (drop (area l.rect) l.buffer ≡ drop (area l.rect) l.initial.buffer)
+    Laid l.piece.whole l.piece.part.left l.piece.part.top l.piece.part.width l.j (λ u v c. c ≡ g.D.Draw.drawn l.draw l.codes (u - l.piece.part.left) (v - l.piece.part.top)) l.initial.buffer l.buffer

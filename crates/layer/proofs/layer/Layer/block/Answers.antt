@@ -1,33 +1,35 @@
-use Rattle.std.proofs.Common.{◌≡◌, ℕ, ◌+◌, ◌-◌, ◌*◌, get_or, pos, Some, sym, refl, ap, ◌∙◌, arith, to_z-of_z, w32, SFits, rules}
+use Rattle.std.proofs.Common.{◌≡◌, ℕ, ◌+◌, ◌-◌, ◌*◌, get_or, pos, Some, sym, refl, ap, ◌∙◌, arith}
 use Rattle.picture.specs.Compose.{taken}
-use Rattle.picture.specs.Prepare.{coded}
+use Rattle.picture.specs.Prepare.{area, coded}
 use Rattle.picture.specs.Steps.{formula, kernel}
-use Rattle.layer.specs.Aims.{ones, walked, weights_of}
-use Rattle.layer.proofs.Parting.{can_carry, carried_needs, coded_carried, mixed_at, mixed_needs, shows_drawn}
-use Rattle.layer.specs.Placing.{few_places, kept-none, kept_times, light_mask, mask_scaled, mixed_as, stood_high, stood_inside, stood_wide}
+use Rattle.layer.specs.Aims.{Each, Mixed, ones, walked, weights_of}
+use Rattle.layer.specs.Layers.{located}
+use Rattle.layer.proofs.Asking.{single_hole}
+use Rattle.layer.proofs.Mixing.{carried_place}
+use Rattle.layer.proofs.Parting.{can_carry, carried_needs, coded_carried, mixed_at, mixed_needs, shows_drawn, told_as, aims_as}
+use Rattle.layer.specs.Placing.{kept-none, kept_times, mixed_as, stood, stood_high, stood_inside, stood_wide}
 use Rattle.layer.proofs.layer.Layer.block.Goals as goal
 
 pub aim-requires : goal.aim-requires
 aim-requires g c =
     let l = c.args.self.now in
     let b = (g.P.Picture.model l.below).shown in
-    let k = c.requires.part in
+    let k = c.args.piece.lies in
     record {
-      allowed = c.args.self.now.stands.allowed;
-      fits = c.args.self.now.stands.fits;
-      across = omega (arith, c.requires.across, k.right, stood_wide b l.step l.size c.args.self.now.stands);
-      down = omega (arith, c.requires.down, k.bottom, stood_high b l.step l.size c.args.self.now.stands);
+      allowed = l.stands.allowed;
+      fits = l.stands.fits;
+      across = omega (arith, c.requires.inside.across, k.right, stood_wide b l.step l.size l.stands);
+      down = omega (arith, c.requires.inside.down, k.bottom, stood_high b l.step l.size l.stands);
     }
 
 pub draw_part-requires : goal.draw_part-requires
 draw_part-requires g c =
     let l = c.args.self.now in
     let b = (g.P.Picture.model l.below).shown in
-    let p = c.args.part in
-    let a = c.in-Copy.ensures in
+    let p = c.args.piece.part in
+    let a = (aims_as _ _ (formula c.args.self.now.step c.args.self.now.size.width c.args.self.now.size.height) _ _ c.args.piece.part c.in-Copy.is c.in-Some.ensures) in
     record {
-      inside = stood_inside b l.step l.size c.in-Copy.carry.at c.args.self.now.stands a.0;
-      part = c.requires.part;
+      inside = stood_inside b l.step l.size c.in-Copy.carry.at l.stands a.0;
       can = λ codes h s i j li lj.
           let k = can_carry g.P.Pixel.Kind.ops b c.in-Copy.carry codes i j _ (a.1 i j li lj) h in
           (a.3, omega (arith, p.across), omega (arith, p.down), k.0, k.1, k.2);
@@ -36,25 +38,19 @@ draw_part-requires g c =
 
 pub blend_part-requires : goal.blend_part-requires
 blend_part-requires g c =
-    let a = c.in-Mean.ensures in
+    let a = (aims_as _ _ (formula c.args.self.now.step c.args.self.now.size.width c.args.self.now.size.height) _ _ c.args.piece.part c.in-Mean.is c.in-Some.ensures) in
     record {
       inside = a.0;
-      few = a.2.few;
-      light = λ k. omega arith;
-      scale = few_places c.in-Mean.lens a.2.few;
-      part = c.requires.part;
+      fair = a.2;
       room = c.requires.room;
     }
 
 pub blend_part-requires-in-Masked : goal.blend_part-requires-in-Masked
 blend_part-requires-in-Masked g c =
-    let a = c.in-Masked.ensures in
+    let a = (aims_as _ _ (formula c.args.self.now.step c.args.self.now.size.width c.args.self.now.size.height) _ _ c.args.piece.part c.in-Masked.is c.in-Some.ensures) in
     record {
       inside = a.0;
-      few = a.2.few;
-      light = light_mask c.in-Masked.mask _ c.of_mask-mask.ensures.weights;
-      scale = omega (arith, mask_scaled c.in-Masked.mask, c.of_mask-mask.ensures.scale);
-      part = c.requires.part;
+      fair = a.2;
       room = c.requires.room;
     }
 
@@ -64,12 +60,13 @@ returns-in-Black g c =
     let l = c.args.self.now in
     let b = (g.P.Picture.model l.below).shown in
     record {
-      laid = λ z. shows_drawn o b l.step l.size c.args.rect c.args.part _ _ _ c.args.self.now.stands
-          (λ i j k li lj q. ap (λ f. coded o (taken o b.maxval b.at f)) (c.in-Black.ensures i j li lj) ∙ ap Some (sym (q ∙ c.code.ensures ∙ ap o.code c.black-pixel.ensures))) c.lay.ensures.laid;
-      spared = λ z. let n : ◌≡◌ {A = ℕ} 0 1 = cc in absurd (omega arith);
-      rest = c.lay.ensures.rest;
+      laid = λ z. shows_drawn o b l.step l.size c.args.piece.whole c.args.piece.part _ _ _ l.stands
+          (λ i j k li lj q. ap (λ f. coded o (taken o b.maxval b.at f)) ((aims_as _ _ (formula c.args.self.now.step c.args.self.now.size.width c.args.self.now.size.height) _ _ c.args.piece.part c.in-Black.is c.in-Some.ensures) i j li lj) ∙ ap Some (sym (q ∙ c.code.ensures ∙ ap o.code c.black-pixel.ensures))) c.lay.ensures;
+      spared = λ e z. let n : ◌≡◌ {A = ℕ} 0 1 = cc in absurd (omega arith);
+      told = λ w h. tt;
       kept = kept-none o g.P.Picture.model g.P.Picture.count _ _ refl refl refl refl;
-      quiet = λ n. (refl, refl);
+      drawn = λ n. refl;
+      quiet = λ n. refl;
     }
 
 pub returns-in-White : goal.returns-in-White
@@ -78,13 +75,14 @@ returns-in-White g c =
     let l = c.args.self.now in
     let b = (g.P.Picture.model l.below).shown in
     record {
-      laid = λ z. shows_drawn o b l.step l.size c.args.rect c.args.part _ _ _ c.args.self.now.stands
-          (λ i j k li lj q. ap (λ f. coded o (taken o b.maxval b.at f)) (c.in-White.ensures i j li lj)
-          ∙ ap Some (sym (q ∙ c.code-in-White.ensures ∙ ap o.code (c.white-pixel.ensures ∙ ap o.white c.args.self.now.stands.maxval)))) c.lay-in-White.ensures.laid;
-      spared = λ z. let n : ◌≡◌ {A = ℕ} 0 1 = cc in absurd (omega arith);
-      rest = c.lay-in-White.ensures.rest;
+      laid = λ z. shows_drawn o b l.step l.size c.args.piece.whole c.args.piece.part _ _ _ l.stands
+          (λ i j k li lj q. ap (λ f. coded o (taken o b.maxval b.at f)) ((aims_as _ _ (formula c.args.self.now.step c.args.self.now.size.width c.args.self.now.size.height) _ _ c.args.piece.part c.in-White.is c.in-Some.ensures) i j li lj)
+          ∙ ap Some (sym (q ∙ c.code-in-White.ensures ∙ ap o.code (c.white-pixel.ensures ∙ ap o.white l.stands.maxval)))) c.lay-in-White.ensures;
+      spared = λ e z. let n : ◌≡◌ {A = ℕ} 0 1 = cc in absurd (omega arith);
+      told = λ w h. tt;
       kept = kept-none o g.P.Picture.model g.P.Picture.count _ _ refl refl refl refl;
-      quiet = λ n. (refl, refl);
+      drawn = λ n. refl;
+      quiet = λ n. refl;
     }
 
 pub returns-in-Copy : goal.returns-in-Copy
@@ -92,19 +90,24 @@ returns-in-Copy g c =
     let o = g.P.Pixel.Kind.ops in
     let l = c.args.self.now in
     let b = (g.P.Picture.model l.below).shown in
-    let p = c.args.part in
-    let a = c.in-Copy.ensures in
+    let p = c.args.piece.part in
+    let a = (aims_as _ _ (formula c.args.self.now.step c.args.self.now.size.width c.args.self.now.size.height) _ _ c.args.piece.part c.in-Copy.is c.in-Some.ensures) in
     record {
       laid = λ z. let d = c.draw_part.ensures.laid z in
-          shows_drawn o b l.step l.size c.args.rect p _ _ _ c.args.self.now.stands
+          shows_drawn o b l.step l.size c.args.piece.whole p _ _ _ l.stands
           (λ i j k li lj q.
           let ei : i ≡ p.left + i - p.left = omega arith in
           let ej : j ≡ p.top + j - p.top = omega arith in
           coded_carried o b c.in-Copy.carry d.0 i j _ d.1 (a.1 i j li lj)
           ∙ ap Some (ap (λ x. get_or d.0 (walked c.in-Copy.carry x j) 0) ei ∙ ap (λ y. get_or d.0 (walked c.in-Copy.carry (p.left + i - p.left) y) 0) ej ∙ sym q)) d.2;
       spared = c.draw_part.ensures.spared;
-      rest = c.draw_part.ensures.rest;
       kept = kept_times o g.P.Picture.model g.P.Picture.count _ _ c.draw_part.ensures.keeps c.draw_part.ensures.counts refl refl refl;
+      told = λ w h.
+          let one : area c.in-Copy.carry.at ≡ 1 = a.2 w h in
+          let q = carried_place o b c.in-Copy.carry 0 0 _ (a.1 0 0 p.wide p.high) in
+          told_as _ _ _ (λ f e. single_hole o b c.in-Copy.carry.at f _ one q.1 e ∙ ap (located o) (sym q.0) ∙ ap (λ z. located o (taken o b.maxval b.at z)) (stood b l.step l.size _ _ p.left p.top l.stands (omega arith) (omega arith)))
+          (c.draw_part.ensures.told (omega arith));
+      drawn = λ n. absurd (carried_needs (formula l.step l.size.width l.size.height) p c.in-Copy.carry a.1 n);
       quiet = λ n. absurd (carried_needs (formula l.step l.size.width l.size.height) p c.in-Copy.carry a.1 n);
     }
 
@@ -113,15 +116,18 @@ returns-in-Mean g c =
     let o = g.P.Pixel.Kind.ops in
     let l = c.args.self.now in
     let b = (g.P.Picture.model l.below).shown in
-    let p = c.args.part in
+    let p = c.args.piece.part in
     let n = c.in-Mean.lens in
-    let a = c.in-Mean.ensures in
+    let a = (aims_as _ _ (formula c.args.self.now.step c.args.self.now.size.width c.args.self.now.size.height) _ _ c.args.piece.part c.in-Mean.is c.in-Some.ensures) in
     record {
-      laid = λ z. shows_drawn o b l.step l.size c.args.rect p _ _ _ c.args.self.now.stands
+      laid = λ z. shows_drawn o b l.step l.size c.args.piece.whole p _ _ _ l.stands
           (λ i j k li lj q. q _ (mixed_at n ones (n.columns * n.rows) (pos 0) i j p _ (a.1 i j li lj))) (c.blend_part.ensures.laid z);
       spared = c.blend_part.ensures.spared;
-      rest = c.blend_part.ensures.rest;
       kept = c.blend_part.ensures.kept;
+      told = λ w h.
+          told_as _ _ _ (λ f e. e ∙ ap (λ z. located o (taken o b.maxval b.at z)) (stood b l.step l.size _ _ p.left p.top l.stands (omega arith) (omega arith)))
+          (c.blend_part.ensures.told w h _ (a.1 0 0 p.wide p.high));
+      drawn = λ k. absurd (mixed_needs (formula l.step l.size.width l.size.height) p n ones (n.columns * n.rows) (pos 0) a.1 k);
       quiet = λ k. absurd (mixed_needs (formula l.step l.size.width l.size.height) p n ones (n.columns * n.rows) (pos 0) a.1 k);
     }
 
@@ -130,30 +136,23 @@ returns-in-Masked g c =
     let o = g.P.Pixel.Kind.ops in
     let l = c.args.self.now in
     let b = (g.P.Picture.model l.below).shown in
-    let p = c.args.part in
+    let p = c.args.piece.part in
     let n = c.in-Masked.lens in
     let m = c.in-Masked.mask in
-    let s = c.of_mask-mask.result in
-    let a = c.in-Masked.ensures in
-    let fits : SFits w32 s.offset = search rules in
+    let s = c.of_mask.result in
+    let a = (aims_as _ _ (formula c.args.self.now.step c.args.self.now.size.width c.args.self.now.size.height) _ _ c.args.piece.part c.in-Masked.is c.in-Some.ensures) in
+    let φ = formula l.step l.size.width l.size.height in
+    let x : Each φ p (Mixed n (λ k. get_or s.weights k (pos 0)) s.scale s.offset) =
+    λ i j li lj. mixed_as n (weights_of m) (λ k. get_or s.weights k (pos 0)) (kernel m).scale s.scale (kernel m).offset s.offset i j _ (λ k. ap (λ y. get_or y k (pos 0)) (sym c.of_mask.ensures.weights))
+    (sym c.of_mask.ensures.scale) (sym c.of_mask.ensures.offset) (a.1 i j li lj) in
     record {
-      laid = λ z. shows_drawn o b l.step l.size c.args.rect p _ _ _ c.args.self.now.stands
-          (λ i j k li lj q. q _ (mixed_at n (λ k. get_or s.weights k (pos 0)) s.scale _ i j p _
-          (mixed_as n (weights_of m) (λ k. get_or s.weights k (pos 0)) (kernel m).scale s.scale (kernel m).offset _ i j _ (λ k. ap (λ x. get_or x k (pos 0)) (sym c.of_mask-mask.ensures.weights))
-          (sym c.of_mask-mask.ensures.scale) (sym c.of_mask-mask.ensures.offset ∙ sym (to_z-of_z fits)) (a.1 i j li lj)))) (c.blend_part-in-Masked.ensures.laid z);
+      laid = λ z. shows_drawn o b l.step l.size c.args.piece.whole p _ _ _ l.stands
+          (λ i j k li lj q. q _ (mixed_at n (λ k. get_or s.weights k (pos 0)) s.scale s.offset i j p _ (x i j li lj))) (c.blend_part-in-Masked.ensures.laid z);
       spared = c.blend_part-in-Masked.ensures.spared;
-      rest = c.blend_part-in-Masked.ensures.rest;
       kept = c.blend_part-in-Masked.ensures.kept;
+      told = λ w h.
+          told_as _ _ _ (λ f e. e ∙ ap (λ z. located o (taken o b.maxval b.at z)) (stood b l.step l.size _ _ p.left p.top l.stands (omega arith) (omega arith)))
+          (c.blend_part-in-Masked.ensures.told w h _ (x 0 0 p.wide p.high));
+      drawn = λ k. absurd (mixed_needs (formula l.step l.size.width l.size.height) p n (weights_of m) (kernel m).scale (kernel m).offset a.1 k);
       quiet = λ k. absurd (mixed_needs (formula l.step l.size.width l.size.height) p n (weights_of m) (kernel m).scale (kernel m).offset a.1 k);
-    }
-
-pub returns-in-Edge : goal.returns-in-Edge
-returns-in-Edge g c =
-    let o = g.P.Pixel.Kind.ops in
-    record {
-      laid = λ z. let n : ◌≡◌ {A = ℕ} 0 1 = cc in absurd (omega arith);
-      spared = λ z. refl;
-      rest = refl;
-      kept = kept-none o g.P.Picture.model g.P.Picture.count _ _ refl refl refl refl;
-      quiet = λ n. absurd (c.in-Edge.ensures.1 n);
     }

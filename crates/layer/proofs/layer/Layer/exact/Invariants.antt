@@ -1,11 +1,10 @@
-use Rattle.std.proofs.Common.{◌≡◌, drop, Some}
-use Rattle.picture.specs.Prepare.{area, coded}
+use Rattle.std.proofs.Common.{◌≡◌, Some}
+use Rattle.picture.specs.Prepare.{coded}
 use Rattle.layer.specs.Laid.{Laid}
 use Rattle.layer.specs.Layers.{Kept, model_of}
 use Rattle.layer.proofs.layer.Layer.exact.Given as goal
 
 abbrev pub invariant-loop-j : goal.invariant-loop-j
 invariant-loop-j g l =
-    Laid l.whole l.part.left l.part.top l.part.width l.j (λ u v c. coded g.P.Pixel.Kind.ops ((model_of g.P.Pixel.Kind.ops g.P.Picture.model l.initial.self).shown.at u v) ≡ Some c) l.initial.buffer l.buffer
-    × (drop (area l.whole) l.buffer ≡ drop (area l.whole) l.initial.buffer)
+    Laid l.piece.whole l.piece.part.left l.piece.part.top l.piece.part.width l.j (λ u v c. coded g.P.Pixel.Kind.ops ((model_of g.P.Pixel.Kind.ops g.P.Picture.model l.initial.self).shown.at u v) ≡ Some c) l.initial.buffer l.buffer
     × Kept g.P.Pixel.Kind.ops g.P.Picture.model g.P.Picture.count l.initial.self l.self

@@ -1,4 +1,5 @@
-use Rattle.std.proofs.Common.{◌≡◌, ℕ, ◌+◌, length, sym, refl, ap, ◌∙◌, subst, arith}
+use Rattle.std.proofs.Common.{◌≡◌, ℕ, ◌+◌, length, Err, sym, refl, ap, ◌∙◌, subst, arith}
+use Rattle.std.proofs.lemmas.Result.{err_from_is_err_and}
 use Rattle.picture.specs.Prepare.{Shown, lined, or_fault}
 use Rattle.picture.proofs.Faults.{shown_clean}
 use Rattle.layer.specs.Layers.{located, model_of}
@@ -24,21 +25,23 @@ loop-k-preserved g c =
     let model = g.P.Picture.model in
     let count = g.P.Picture.count in
     let v = kept_shows o model count c.args.self.now c.loop-k.self c.loop-k.invariant.1 in (
-      shown-next o (lined (model_of o model c.args.self.now).shown c.args.left c.args.row) c.loop-k.out c.loop-k.k c.in-Ok.code (omega arith) c.loop-k.invariant.0
-          (c.in-Ok.ensures.answer ∙ ap (λ m. located o (m.shown.at (c.args.left + c.loop-k.k) c.args.row)) (sym v)),
+      shown-next o (lined (model_of o model c.args.self.now).shown c.args.left c.args.row) c.loop-k.out c.loop-k.k _ (omega arith) c.loop-k.invariant.0
+          (c.in_ok-code.ensures.answer ∙ ap (λ m. located o (m.shown.at (c.args.left + c.loop-k.k) c.args.row)) (sym v)),
       kept_follows o model count c.args.self.now c.loop-k.self c.place.new.self c.loop-k.invariant.1 c.place.ensures.kept,
     )
 
-pub returns-in-Err : goal.returns-in-Err
-returns-in-Err g c =
+pub returns-in_err-code : goal.returns-in_err-code
+returns-in_err-code g c =
+    let p = err_from_is_err_and c.from_residual.result c.from_residual.ensures.1 in
+    let e = p.1 ∙ ap Err p.2 in
     let o = g.P.Pixel.Kind.ops in
     let model = g.P.Picture.model in
     let count = g.P.Picture.count in
     let v = kept_shows o model count c.args.self.now c.loop-k.self c.loop-k.invariant.1 in
     record {
-      answer = hole_next o (lined (model_of o model c.args.self.now).shown c.args.left c.args.row) c.loop-k.out c.loop-k.k (length c.args.out.now) c.in-Err.fault (omega arith) c.loop-k.invariant.0
-          (c.in-Err.ensures.answer ∙ ap (λ m. located o (m.shown.at (c.args.left + c.loop-k.k) c.args.row)) (sym v));
-      shown = λ z. let n : ◌≡◌ {A = ℕ} 0 1 = cc in absurd (omega arith);
+      answer = e ∙ hole_next o (lined (model_of o model c.args.self.now).shown c.args.left c.args.row) c.loop-k.out c.loop-k.k (length c.args.out.now) _ (omega arith) c.loop-k.invariant.0
+          (c.in_err-code.ensures.answer ∙ ap (λ m. located o (m.shown.at (c.args.left + c.loop-k.k) c.args.row)) (sym v));
+      shown = λ z. let y = e in let n : ◌≡◌ {A = ℕ} 0 1 = cc in absurd (omega arith);
       same = kept_follows o model count c.args.self.now c.loop-k.self c.place.new.self c.loop-k.invariant.1 c.place.ensures.kept;
     }
 

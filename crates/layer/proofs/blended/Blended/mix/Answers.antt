@@ -3,59 +3,58 @@ use Rattle.picture.proofs.Serving.{row_end}
 use Rattle.layer.specs.Aims.{lens_pixel}
 use Rattle.layer.specs.Sums.{downward, columned}
 use Rattle.layer.proofs.Summing.{by_columns, columned_more, held_columns}
-use Rattle.layer.proofs.mix.mix.Goals as goal
+use Rattle.layer.proofs.blended.Blended.mix.Goals as goal
 
 pub add_column-sum-requires : goal.add_column-sum-requires
 add_column-sum-requires g c =
     let o = g.K.Kind.ops in
-    let l = c.args.lens in
-    let w = g.W.Weights.weighs c.args.weights.now in
+    let l = c.args.self.now.lens in
+    let w = g.W.Weights.weighs c.args.self.now.filter.weights in
     let p = lens_pixel o c.args.codes.now l c.args.i c.args.j in
     record {
-      can = c.requires.can;
+      can = c.requires;
       inside = c.loop-q-test.true;
-      light = c.requires.light;
       room = (
         c.loop-q.q * l.rows,
         subst (λ s. g.K.Kind.held s (c.loop-q.q * l.rows)) (sym c.loop-q.invariant)
-            (held_columns o g.K.Kind.held g.met.K.Kind.grown p w c.requires.light g.met.K.Kind.begun l.columns l.rows c.loop-q.q),
-        row_end c.loop-q.q l.rows l.columns 4096 c.loop-q-test.true (omega (arith, mul_comm l.rows l.columns, c.requires.can.few.few)),
+            (held_columns o g.K.Kind.held g.met.K.Kind.grown p w c.args.self.now.filter.light g.met.K.Kind.begun l.columns l.rows c.loop-q.q),
+        row_end c.loop-q.q l.rows l.columns 4096 c.loop-q-test.true (omega (arith, mul_comm l.rows l.columns, c.requires.few.few)),
       );
     }
 
 pub finish-requires : goal.finish-requires
 finish-requires g c =
     let o = g.K.Kind.ops in
-    let l = c.args.lens in
-    let w = g.W.Weights.weighs c.args.weights.now in
+    let l = c.args.self.now.lens in
+    let w = g.W.Weights.weighs c.args.self.now.filter.weights in
     let p = lens_pixel o c.args.codes.now l c.args.i c.args.j in
     let q : c.loop-q.q ≡ l.columns = omega arith in
     record {
       room = (
         c.loop-q.q * l.rows,
         subst (λ s. g.K.Kind.held s (c.loop-q.q * l.rows)) (sym c.loop-q.invariant)
-            (held_columns o g.K.Kind.held g.met.K.Kind.grown p w c.requires.light g.met.K.Kind.begun l.columns l.rows c.loop-q.q),
-        omega (arith, ap (λ z. z * l.rows) q, c.requires.can.few.few),
+            (held_columns o g.K.Kind.held g.met.K.Kind.grown p w c.args.self.now.filter.light g.met.K.Kind.begun l.columns l.rows c.loop-q.q),
+        omega (arith, ap (λ z. z * l.rows) q, c.requires.few.few),
       );
-      scale = c.requires.scale;
+      scale = c.args.self.now.filter.scaled;
     }
 
 pub loop-q-preserved : goal.loop-q-preserved
 loop-q-preserved g c =
     let o = g.K.Kind.ops in
-    let l = c.args.lens in
-    let w = g.W.Weights.weighs c.args.weights.now in
+    let l = c.args.self.now.lens in
+    let w = g.W.Weights.weighs c.args.self.now.filter.weights in
     let p = lens_pixel o c.args.codes.now l c.args.i c.args.j in
     c.add_column-sum.ensures ∙ ap (λ s. downward o p w l.columns c.loop-q.q s l.rows) c.loop-q.invariant ∙ sym (columned_more o p w l.columns l.rows c.loop-q.q)
 
 pub returns : goal.returns
 returns g c =
     let o = g.K.Kind.ops in
-    let l = c.args.lens in
-    let w = g.W.Weights.weighs c.args.weights.now in
+    let l = c.args.self.now.lens in
+    let w = g.W.Weights.weighs c.args.self.now.filter.weights in
     let p = lens_pixel o c.args.codes.now l c.args.i c.args.j in
-    let f : SFits w32 c.args.offset = search rules in
+    let f : SFits w32 c.args.self.now.filter.offset = search rules in
     let q : c.loop-q.q ≡ l.columns = omega arith in
     c.finish.ensures
-    ∙ ap (λ z. o.finish c.loop-q.sum c.args.scale z c.args.maxval) (to_z-of_z f)
-    ∙ ap (λ s. o.finish s c.args.scale c.args.offset c.args.maxval) (c.loop-q.invariant ∙ ap (columned o p w l.columns l.rows) q ∙ by_columns o g.met.K.Kind.commutes p w l.columns l.rows)
+    ∙ ap (λ z. o.finish c.loop-q.sum c.args.self.now.filter.scale z c.args.self.now.maxval) (to_z-of_z f)
+    ∙ ap (λ s. o.finish s c.args.self.now.filter.scale c.args.self.now.filter.offset c.args.self.now.maxval) (c.loop-q.invariant ∙ ap (columned o p w l.columns l.rows) q ∙ by_columns o g.met.K.Kind.commutes p w l.columns l.rows)

@@ -1,0 +1,16 @@
+ghost use Rattle.std.specs.Prelude.{◌≡◌, ◌+◌, ◌<◌};
+ghost use Rattle.layer.specs.Aims.{spot};
+
+use crate::piece::Piece;
+
+impl Piece {
+    /// Where row `j` of the part begins among the places of the rectangle.
+    pub fn row(self, j: u32) -> usize
+        requires { j < self.part.height }
+        ensures { result ≡ spot self.whole self.part.left (self.part.top + j) }
+    {
+        let Piece { whole, part, .. } = self;
+        let above = (part.top + j - whole.top) as usize;
+        above * whole.width as usize + (part.left - whole.left) as usize
+    }
+}
