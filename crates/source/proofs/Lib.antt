@@ -7,3 +7,4 @@ pub mod Following
 pub mod Laws
 pub mod Loads
 pub mod Losing
+pub mod Widths

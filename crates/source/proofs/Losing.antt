@@ -1,8 +1,11 @@
 -- Behind the end of a store every pixel misses its first byte.
-use Rattle.std.proofs.Common.{◌≡◌, ℕ, ◌+◌, ◌-◌, ◌*◌, ◌/◌, ◌%◌, ◌<◌, ◌≤◌, Err, refl, ap, ◌∙◌, ⊎_elim, mul-le-mul_right, mul_comm, add-mul, one-mul, arith}
+use Rattle.std.proofs.Common.{◌≡◌, ℕ, ◌+◌, ◌-◌, ◌*◌, ◌/◌, ◌%◌, ◌<◌, ◌≤◌, Err, sym, refl, ap, ◌∙◌, ⊎_elim, mul-le-mul_right, mul_comm, add-mul, one-mul, arith}
 use native.Mathlib.Nat.{div-add-mod}
 use Rattle.std.proofs.lemmas.Nat.{mod_below}
-use Rattle.std.proofs.lemmas.Bool.{cases_lt}
+use Rattle.std.proofs.lemmas.Bool.{cases_lt, cond-true, cond-false, le-leb, lt-leb}
+use Rattle.std.proofs.lemmas.Grind.{div_ceil_times}
+use Rattle.std.specs.Int.{div_ceil}
+use Rattle.std.specs.Prelude.{nat_le}
 use Rattle.pixel.specs.Ops.{Ops}
 use Rattle.store.specs.Cells.{Cell, missing}
 use Rattle.store.specs.Reads.{answer, value}
@@ -13,20 +16,27 @@ use Rattle.picture.specs.Places.{hole}
 use Rattle.source.specs.declared.raster.Raster.{Raster}
 use Rattle.source.specs.Raster.{wide, samples_of}
 use Rattle.source.specs.Files.{fault_at, lacking, pixel_bytes, raster_image, seen}
-use Rattle.source.specs.Extent.{Silent, LostBehind}
+use Rattle.source.specs.Extent.{Silent, LostBehind, reached}
 
--- n pixels of step bytes reach the end
-reaches : (c step n : ℕ) → 1 ≤ step → c / step + 1 ≤ n → c < n * step
-reaches c step n h l =
-    let m : c % step < step = mod_below c step (omega arith) in
-    omega (arith, div-add-mod c step, mul_comm step (c / step), mul-le-mul_right step l, add-mul (c / step) 1 step, one-mul step)
+-- one number rounds a quotient up
+one_up : (c step x y : ℕ) → c ≤ x * step → y * step < c + step → x < y → ⊥
+one_up c step x y h l d = omega (arith, mul-le-mul_right step d, add-mul x 1 step, one-mul step)
 
--- the first byte of a pixel behind the n that reach the end lies at or behind it
-pub reach_end : (start end step n i : ℕ) → 1 ≤ step → (start < end → (end - start - 1) / step + 1 ≤ n) → n ≤ i → end ≤ start + i * step
-reach_end start end step n i h r l =
+same_up : (c step x y : ℕ) → c ≤ x * step → x * step < c + step → c ≤ y * step → y * step < c + step → x ≡ y
+same_up c step x y a b d e =
+    ⊎_elim (λ l. absurd (one_up c step x y a e l)) (λ h. ⊎_elim (λ l. absurd (one_up c step y x d b l)) (λ i. omega arith) (cases_lt y x)) (cases_lt x y)
+
+-- the pixels of so many bytes that reach the end, rounded up
+pub reached_up : (start end step : ℕ) → 1 ≤ step → div_ceil (end - start) step ≡ reached start end step
+reached_up start end step h =
+    let u = div_ceil_times (end - start) step h in
     ⊎_elim
-    (λ lt. let a : (end - start - 1) / step + 1 ≤ i = omega (arith, r lt) in let b = reaches (end - start - 1) step i h a in omega arith)
-    (λ le. omega arith)
+    (λ l. let q : (end - start - 1) % step < step = mod_below (end - start - 1) step (omega arith) in
+    same_up (end - start) step (div_ceil (end - start) step) ((end - start - 1) / step + 1) u.0 u.1
+    (omega (arith, div-add-mod (end - start - 1) step, mul_comm step ((end - start - 1) / step), add-mul ((end - start - 1) / step) 1 step, one-mul step))
+    (omega (arith, div-add-mod (end - start - 1) step, mul_comm step ((end - start - 1) / step), add-mul ((end - start - 1) / step) 1 step, one-mul step))
+    ∙ sym (cond-false (nat_le end start) 0 _ (lt-leb end start l)))
+    (λ l. same_up (end - start) step (div_ceil (end - start) step) 0 u.0 u.1 (omega arith) (omega arith) ∙ sym (cond-true (nat_le end start) 0 _ (le-leb end start l)))
     (cases_lt start end)
 
 -- a pixel whose first byte is missing
@@ -40,6 +50,6 @@ lost_pixel o at r x y h e =
     ap (λ w. seen o (lacking w) m (samples_of (wide m) (λ j. value (at (p + j))) o.depth) (fault_at r.source x y)) a
 
 pub lost-behind : {K S : Type 0} (o : Ops K S) (at : ℕ → Cell) (r : Raster) (end n : ℕ) → 1 ≤ pixel_bytes o r.size.maxval
-    → (r.start < end → (end - r.start - 1) / pixel_bytes o r.size.maxval + 1 ≤ n) → Silent at end → LostBehind o at r n
+    → end - r.start ≤ n * pixel_bytes o r.size.maxval → Silent at end → LostBehind o at r n
 lost-behind o at r end n h e s x y l =
-    lost_pixel o at r x y h (s _ (reach_end r.start end (pixel_bytes o r.size.maxval) n (y * r.size.width + x) h e l))
+    lost_pixel o at r x y h (s _ (omega (arith, e, mul-le-mul_right (pixel_bytes o r.size.maxval) l)))

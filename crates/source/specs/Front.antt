@@ -1,6 +1,6 @@
 -- The bytes that a store begins with.
 use Rattle.std.specs.Prelude.{◌≡◌, ℕ, zero, suc, ◌+◌, ◌<◌, ◌≤◌, List, [], ◌∷◌, Err, Result}
-use Rattle.store.specs.Cells.{Cell, byte, missing, unread}
+use Rattle.store.specs.Cells.{Cell, byte, missing, unread, capped}
 use Rattle.source.specs.declared.header.Header.{Header}
 use Rattle.source.specs.declared.header.HeaderError.{HeaderError}
 use Rattle.source.specs.declared.header.HeaderError.TheVariants.{End}
@@ -16,6 +16,10 @@ more unread bs = []
 unfoldable pub available : (ℕ → Cell) → ℕ → ℕ → List ℕ
 available at p zero = []
 available at p (suc n) = more (at p) (available at (p + 1) n)
+
+-- the bytes that a store begins with, of which a header may take up to 4,096
+abbrev pub beginning : (ℕ → Cell) → List ℕ
+beginning at = available (capped at) 0 header_limit
 
 -- a byte stands here
 abbrev pub HasByte : Cell → Type 0

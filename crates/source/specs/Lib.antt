@@ -13,3 +13,4 @@ pub mod Extent
 pub mod Rasters
 pub mod Sampling
 pub mod Remembering
+pub mod Showing

@@ -35,6 +35,10 @@ module _ {K S : Type 0} (o : Ops K S) where
     at = λ x y. remembered s.maxval (o.decode (slice_index codes (y * s.width + x))) (fault_at source x y NoPixel);
   }
 
+  -- what a picture in memory shows
+  abbrev pub remembered_of : {C : Type 0} → (C → List ℕ) → MemorySource C K → Image K
+  remembered_of held s = memory_image (held s.codes) s.size s.source
+
   -- made of these numbers, or 5 where one is outside its limits or the codes are too few
   abbrev pub MemoryMade : {C : Type 0} → (C → List ℕ) → C → ℕ → ℕ → ℕ → ℕ → Result (MemorySource C K) (Refused C) → Type 0
   MemoryMade held c w h m n (Ok s) =

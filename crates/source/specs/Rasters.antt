@@ -1,6 +1,6 @@
 -- A run of pixels of a row of a file.
 use Rattle.std.specs.Prelude.{◌≡◌, ℕ, suc, ◌+◌, ◌-◌, ◌*◌, ◌<◌, ◌≤◌, Bool, true, false, cond, List, ◌++◌, length, Some, None, Ok, Err, Option, slice_index, refl}
-use Rattle.std.proofs.Common.{sym, ◌∙◌, ap, subst, ⊎_elim, mul_comm, add-mul, arith}
+use Rattle.std.proofs.Common.{sym, ◌∙◌, ap, subst, ⊎_elim, ◌⊎◌, mul_comm, add-mul, arith}
 use Rattle.std.proofs.lemmas.List.FromFn.{fill_by_all, get_or-map-range_with_len}
 use Rattle.std.proofs.lemmas.List.{get_or_append_left}
 use Rattle.std.proofs.lemmas.Bool.{cases_Bool, cond-true, cond-false}
@@ -136,7 +136,7 @@ module _ {K S : Type 0} (o : Ops K S) where
       clean = shown_clean o (lined image left row) t out (run-shown pixels t block out laws decoded.within loaded.there loaded.bytes decoded)
 
       -- the run ends at a sample above maxval
-      pub ends_above : t < pixels → Err (fault_at r.source (left + t) row Above) ≡ first_in (lined image left row) n
+      ends_above : t < pixels → Err (fault_at r.source (left + t) row Above) ≡ first_in (lined image left row) n
       ends_above h =
           ap or_fault (sym (first_at (lined image left row) t n (fault_at r.source (left + t) row Above) (omega (arith, loaded.within)) clean
           (run_above pixels t block out h loaded.there loaded.bytes decoded)))
@@ -145,19 +145,34 @@ module _ {K S : Type 0} (o : Ops K S) where
       all_taken h = omega (arith, decoded.within)
 
       -- the run ends at a byte that is lacking
-      pub ends_lacking : (c : Cause) → lack ≡ Some c → pixels ≤ t → Err (fault_at r.source (left + t) row c) ≡ first_in (lined image left row) n
+      ends_lacking : (c : Cause) → lack ≡ Some c → pixels ≤ t → Err (fault_at r.source (left + t) row c) ≡ first_in (lined image left row) n
       ends_lacking c e h =
           let k : Lacks at begin step n pixels (Some c) = subst (Lacks at begin step n pixels) e loaded.lacks in
           let q = all_taken h in
           ap or_fault (sym (first_at (lined image left row) t n (fault_at r.source (left + t) row c) (omega (arith, k.0)) clean
           (ap (lined image left row) q ∙ run_lacks pixels c k.1 ∙ ap (λ z. hole (fault_at r.source (left + z) row c)) (sym q))))
 
+      -- why the run ends: a sample above maxval, or what the read says
+      abbrev pub Ends : Option Cause → Type 0
+      Ends why = ((t < pixels) × (why ≡ Some Above)) ⊎ ((pixels ≤ t) × (why ≡ lack))
+
+      pub ends-hole : (why : Option Cause) (c : Cause) → Ends why → why ≡ Some c → Err (fault_at r.source (left + t) row c) ≡ first_in (lined image left row) n
+      ends-hole why c w e =
+          ⊎_elim
+          (λ a. let s : Above ≡ c = cc in ap (λ z. Err (fault_at r.source (left + t) row z)) (sym s) ∙ ends_above a.0)
+          (λ b. ends_lacking c (sym b.1 ∙ e) b.0)
+          w
+
       -- the run is whole
-      pub ends_whole : lack ≡ None → pixels ≤ t → (t ≡ n) × Shown o (lined image left row) n out
+      ends_whole : lack ≡ None → pixels ≤ t → (t ≡ n) × Shown o (lined image left row) n out
       ends_whole e h =
           let k : Lacks at begin step n pixels None = subst (Lacks at begin step n pixels) e loaded.lacks in
           let q : t ≡ n = all_taken h ∙ k in
           (q, subst (λ z. Shown o (lined image left row) z out) q (run-shown pixels t block out laws decoded.within loaded.there loaded.bytes decoded))
+
+      pub ends-none : (why : Option Cause) → Ends why → why ≡ None → (t ≡ n) × Shown o (lined image left row) n out
+      ends-none why w e =
+          ⊎_elim (λ a. let s : ◌≡◌ {A = ℕ} 0 1 = cc in absurd (omega arith)) (λ b. ends_whole (sym b.1 ∙ e) b.0) w
 
   pub shown-append : (f : ℕ → Place K) (n : ℕ) (part rest : List ℕ) → n ≤ length part → Shown o f n part → Shown o f n (part ++ rest)
   shown-append f n part rest l s k h = s k h ∙ ap Some (sym (get_or_append_left part rest 0 k (omega arith)))

@@ -1,7 +1,8 @@
 -- Samples and the code that they join to.
-use Rattle.std.specs.Prelude.{◌≡◌, ℕ, zero, suc, ◌+◌, ◌*◌, ◌^◌, ◌<◌, ◌≤◌, Bool, true, false, leb, List, [], ◌∷◌, ◌++◌, length, None, ◌≢◌, nat_le, slice_index, refl}
-use Rattle.std.proofs.Common.{arith}
-use Rattle.std.proofs.lemmas.List.FromFn.{map-range_with_len_more, length-map-range_with_len, get_or-map-range_with_len}
+use Rattle.std.specs.Prelude.{◌≡◌, ℕ, zero, suc, ◌+◌, ◌*◌, ◌^◌, ◌<◌, ◌≤◌, Bool, true, false, leb, ◌&&◌, map, List, [], ◌∷◌, ◌++◌, length, None, ◌≢◌, nat_le, slice_index, refl}
+use Rattle.std.proofs.Common.{sym, ap, ◌∙◌, arith}
+use Rattle.std.specs.List.{list_all, range_with_len}
+use Rattle.std.proofs.lemmas.List.FromFn.{fill_by_all, map-range_with_len_more, length-map-range_with_len, get_or-map-range_with_len}
 use Rattle.std.proofs.lemmas.Bool.{and_from, le-leb, cond-false}
 use Rattle.std.proofs.lemmas.Bool.Decides.{nat_tests}
 use Rattle.pixel.specs.Ops.{Ops, Under, behind, joined}
@@ -49,9 +50,11 @@ module _ (w : Bool) (byte : ℕ → ℕ) where
       cond-false (under m (samples_of w byte o.depth)) _ _
       (false_of (under m (samples_of w byte o.depth)) (λ e. let a = under_at m (samples_of w byte o.depth) e k in omega (arith, samples_at o.depth k h)))
 
-pub under_of : (m : ℕ) (xs : List ℕ) → ((j : ℕ) → j < length xs → slice_index xs j ≤ m) → under m xs ≡ true
-under_of m [] h = refl
-under_of m (x ∷ xs) h = and_from (nat_le x m) (under m xs) (le-leb x m (h 0 (omega arith))) (under_of m xs (λ j l. h (suc j) (omega arith)))
+under_list : (m : ℕ) (f : ℕ → ℕ) (ks : List ℕ) → list_all (λ k. nat_le (f k) m) ks ≡ under m (map f ks)
+under_list m f [] = refl
+under_list m f (k ∷ ks) = ap (λ b. nat_le (f k) m && b) (under_list m f ks)
 
-pub under_not : (m : ℕ) (xs : List ℕ) (k : ℕ) → m < slice_index xs k → under m xs ≡ false
-under_not m xs k h = false_of (under m xs) (λ e. let a = under_at m xs e k in omega arith)
+-- asked of the sample of each index
+pub under_each : (m d : ℕ) (xs : List ℕ) → length xs ≡ d → list_all (λ k. nat_le (slice_index xs k) m) (range_with_len 0 d) ≡ under m xs
+under_each m d xs e =
+    under_list m (λ k. slice_index xs k) (range_with_len 0 d) ∙ ap (under m) (sym (fill_by_all (λ k. slice_index xs k) xs d 0 e (λ k h. refl)))

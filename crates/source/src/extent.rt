@@ -1,12 +1,11 @@
-ghost use Rattle.std.specs.Prelude.{◌≡◌, ℕ, ◌+◌, ◌*◌, ◌≤◌};
+ghost use Rattle.std.specs.Prelude.{◌≡◌};
 ghost use Rattle.store.specs.Cells.{capped};
-ghost use Rattle.source.specs.Files.{pixel_bytes, raster_image};
+ghost use Rattle.source.specs.Files.{pixel_bytes};
 ghost use Rattle.source.specs.Extent.{Silent, LostBehind, reached};
 
 use crate::file::FileSource;
 use crate::raster::Raster;
-use crate::samples::pixel_bytes;
-use pixel::Kind;
+use pixel::{Kind, pixel_bytes};
 use store::Store;
 
 impl<S: Store, K: Kind> FileSource<S, K> {
@@ -22,12 +21,7 @@ impl<S: Store, K: Kind> FileSource<S, K> {
         ensures value { result ≡ reached self.now.raster.start end (pixel_bytes K.ops self.now.raster.size.maxval) }
         ensures law { Silent (capped (S.at self.now.store)) end → LostBehind K.ops (capped (S.at self.now.store)) self.now.raster result }
     {
-        let start = self.raster.start;
-        let step = pixel_bytes::<K>(self.raster.size.maxval >= 256) as u64;
-        if end <= start {
-            0
-        } else {
-            (end - start - 1) / step + 1
-        }
+        let step = pixel_bytes::<K>(self.raster.size.maxval) as u64;
+        end.saturating_sub(self.raster.start).div_ceil(step)
     }
 }

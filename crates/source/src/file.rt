@@ -1,15 +1,16 @@
-ghost use Rattle.std.specs.Prelude.{◌≡◌, ℕ, ◌+◌, ◌*◌, ◌<◌, ◌≤◌, Bool, List, [], length, Ok};
+ghost use Rattle.std.specs.Prelude.{◌≡◌, ◌+◌, ◌*◌, ◌<◌, ◌≤◌, length, Ok};
 ghost use Rattle.store.specs.Cells.{capped};
 ghost use Rattle.picture.specs.Prepare.{first_in, lined, Shown};
-ghost use Rattle.source.specs.Files.{raster_image, lack_cause, sourced};
+ghost use Rattle.source.specs.Files.{lack_cause, sourced};
 ghost use Rattle.source.specs.Loading.{Loaded};
+ghost use Rattle.source.specs.Showing.{SameFile, shown_of};
 ghost use Rattle.std.proofs.Common.{rules};
 ghost use Rattle.source.specs.Rasters.{Lawful, raster_bounded};
 
 use crate::raster::Raster;
-use crate::samples::{decode, pixel_bytes};
+use crate::samples::decode;
 use picture::{Cause, Fault, Picture, Rect, Refusal, Rows, Size, serve};
-use pixel::Kind;
+use pixel::{Kind, pixel_bytes};
 use std::marker::PhantomData;
 use store::{Lack, Store};
 
@@ -51,14 +52,15 @@ fn read_pixels<S: Store>(store: &S, place: u64, step: usize, count: usize, block
     requires room { count * step ≤ length block.old }
     ensures { Loaded (capped (S.at store.now)) place step count block.new result.pixels result.lack }
 {
-    match store.read(place, &mut block[0..count * step]) {
+    match store.read(place, &mut block[..count * step]) {
         Ok(()) => Load {
             pixels: count,
             lack: None,
         },
         Err(lack) => {
             let pixels = (lack.place() - place) as usize / step;
-            let _ = store.read(place, &mut block[0..pixels * step]);
+            // Those before it are bytes, so this is answered.
+            let _ = store.read(place, &mut block[..pixels * step]);
             Load {
                 pixels,
                 lack: Some(cause_of(lack)),
@@ -73,19 +75,16 @@ impl<S: Store, K: Kind> FileSource<S, K> {
         requires across { left + length out.old ≤ self.old.raster.size.width }
         requires down { row < self.old.raster.size.height }
         requires short { length out.old ≤ 1024 }
-        ensures answer { result ≡ first_in (lined (raster_image K.ops (capped (S.at self.old.store)) self.old.raster) left row) (length out.old) }
-        ensures shown { result ≡ Ok tt → Shown K.ops (lined (raster_image K.ops (capped (S.at self.old.store)) self.old.raster) left row) (length out.old) out.new }
-        ensures store { self.new.store ≡ self.old.store }
-        ensures raster { self.new.raster ≡ self.old.raster }
-        ensures count { self.new.count ≡ self.old.count }
+        ensures answer { result ≡ first_in (lined (shown_of K.ops S.at self.old) left row) (length out.old) }
+        ensures shown { result ≡ Ok tt → Shown K.ops (lined (shown_of K.ops S.at self.old) left row) (length out.old) out.new }
+        ensures same { SameFile self.old self.new }
     {
         let Raster {
             start,
             size,
             source,
         } = self.raster;
-        let wide = size.maxval >= 256;
-        let step = pixel_bytes::<K>(wide);
+        let step = pixel_bytes::<K>(size.maxval);
         let place = start + (row as u64 * size.width as u64 + left as u64) * step as u64;
         let Load { pixels, lack } = read_pixels(
             &self.store,
@@ -94,16 +93,13 @@ impl<S: Store, K: Kind> FileSource<S, K> {
             out.len(),
             &mut self.block,
         );
-        let taken = decode::<K>(&self.block, wide, size.maxval, &mut out[0..pixels]);
-        if taken < pixels {
-            return Err(Fault {
-                cause: Cause::Above,
-                source,
-                column: left + taken as u32,
-                row,
-            });
-        }
-        match lack {
+        let taken = decode::<K>(&self.block, size.maxval, &mut out[..pixels]);
+        let hole = if taken < pixels {
+            Some(Cause::Above)
+        } else {
+            lack
+        };
+        match hole {
             None => Ok(()),
             Some(cause) => Err(Fault {
                 cause,
@@ -118,9 +114,9 @@ impl<S: Store, K: Kind> FileSource<S, K> {
 impl<S: Store, K: Kind> Rows for FileSource<S, K> {
     type Pixel = K;
 
-    ghost view = { λ s. raster_image K.ops (capped (S.at s.store)) s.raster };
+    ghost view = { shown_of K.ops S.at };
 
-    ghost same = { λ s t. (s.store ≡ t.store) × (s.raster ≡ t.raster) × (s.count ≡ t.count) };
+    ghost same = { SameFile };
 
     ghost stays = { Prim.search rules };
 
@@ -129,13 +125,11 @@ impl<S: Store, K: Kind> Rows for FileSource<S, K> {
     ghost shows = { Prim.search rules };
 
     fn row(&mut self, left: u32, row: u32, out: &mut [u64]) -> Result<(), Fault> {
-        let mut done = 0;
-        while done < out.len() {
-            let n = (out.len() - done).min(RUN);
-            match self.run(left + done as u32, row, &mut out[done..done + n]) {
-                Ok(()) => done += n,
-                Err(fault) => return Err(fault),
-            }
+        // By index: a proof would not know what is written to the parts that `chunks_mut` lends.
+        for i in 0..out.len().div_ceil(RUN) {
+            let from = i * RUN;
+            let end = out.len().min(from + RUN);
+            self.run(left + from as u32, row, &mut out[from..end])?;
         }
         Ok(())
     }
@@ -144,7 +138,7 @@ impl<S: Store, K: Kind> Rows for FileSource<S, K> {
 impl<S: Store, K: Kind> Picture for FileSource<S, K> {
     type Pixel = K;
 
-    ghost model = { λ s. sourced (raster_image K.ops (capped (S.at s.store)) s.raster) };
+    ghost model = { λ s. sourced (shown_of K.ops S.at s) };
 
     ghost count = { λ s. s.count };
 

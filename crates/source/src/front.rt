@@ -1,8 +1,7 @@
 ghost use Rattle.std.specs.Prelude.{◌≡◌, ◌≤◌, length, take};
 ghost use Rattle.store.specs.Cells.{capped};
-ghost use Rattle.source.specs.Front.{EndsAtLack, available};
+ghost use Rattle.source.specs.Front.{EndsAtLack, available, beginning};
 ghost use Rattle.source.specs.Header.{header_of};
-ghost use Rattle.source.specs.Limits.{header_limit};
 ghost use Rattle.source.specs.Reading.{Exact, Refuses};
 
 use crate::header::{HEADER_LIMIT, Header, HeaderError, parse};
@@ -18,6 +17,7 @@ fn front<S: Store>(store: &S, buffer: &mut [u8]) -> usize
         Ok(()) => buffer.len(),
         Err(lack) => {
             let n = lack.place() as usize;
+            // Those before it are bytes, so this is answered.
             let _ = store.read(0, &mut buffer[..n]);
             n
         }
@@ -26,9 +26,9 @@ fn front<S: Store>(store: &S, buffer: &mut [u8]) -> usize
 
 /// The header that a store begins with, whose mark is `P` and then `mark`.
 pub fn read_header<S: Store>(store: &S, mark: u8) -> Result<Header, HeaderError>
-    ensures automaton { result ≡ header_of mark (available (capped (S.at store.now)) 0 header_limit) }
-    ensures grammar { Exact mark (available (capped (S.at store.now)) 0 header_limit) result }
-    ensures refused { Refuses mark (available (capped (S.at store.now)) 0 header_limit) result }
+    ensures automaton { result ≡ header_of mark (beginning (S.at store.now)) }
+    ensures grammar { Exact mark (beginning (S.at store.now)) result }
+    ensures refused { Refuses mark (beginning (S.at store.now)) result }
     ensures ended { EndsAtLack (capped (S.at store.now)) result }
 {
     let mut buffer = [0u8; HEADER_LIMIT];

@@ -36,12 +36,12 @@ pub enum HeaderError {
     Number { place: u32 },
 }
 
-impl HeaderError {
+impl From<HeaderError> for Refusal {
+    ghost from_gives = { λ error refusal. told refusal ≡ refused (number_of error) [] };
+
     /// The refusal of a file with such a header.
-    pub fn refusal(self) -> Refusal
-        ensures { told result ≡ refused (number_of self) [] }
-    {
-        match self {
+    fn from(error: HeaderError) -> Refusal {
+        match error {
             HeaderError::Mark => Refusal::WrongMark,
             HeaderError::End { .. } => Refusal::HeaderEnds,
             HeaderError::Byte { .. } => Refusal::HeaderByte,
@@ -55,7 +55,7 @@ fn scan(rest: &[u8]) -> Result<Header, HeaderError>
     requires { 2 + length rest.now ≤ header_limit }
     ensures { result ≡ run start 2 rest.now }
 {
-    let mut reader = Reader::new();
+    let mut reader = Reader::default();
     for (i, b) in rest.iter().enumerate() {
         reader.take(i as u32 + 2, *b)?;
         if let State::Done = reader.state {

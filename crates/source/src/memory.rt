@@ -1,7 +1,7 @@
 ghost use Rattle.std.specs.Prelude.{◌≡◌, ℕ, ◌+◌, ◌*◌, ◌≤◌, List, length, Some, slice_index};
 ghost use Rattle.picture.specs.Images.{Sized};
 ghost use Rattle.source.specs.Files.{sourced};
-ghost use Rattle.source.specs.Memory.{acceptable, memory_image, MemoryMade};
+ghost use Rattle.source.specs.Memory.{acceptable, remembered_of, MemoryMade};
 ghost use Rattle.std.proofs.Common.{rules};
 ghost use Rattle.source.specs.Remembering.{dim_remembered};
 
@@ -35,11 +35,7 @@ impl<'a> Codes for CodeSlice<'a> {
     }
 
     fn get(&self, index: usize) -> u64 {
-        if index < self.codes.len() {
-            self.codes[index]
-        } else {
-            0
-        }
+        self.codes.get(index).copied().unwrap_or(0)
     }
 }
 
@@ -60,12 +56,7 @@ fn is_pixel<K: Kind>(code: u64, maxval: u16) -> bool
     let Some(pixel) = K::decode(code) else {
         return false;
     };
-    for k in 0..K::depth() {
-        if pixel.sample(k) > maxval {
-            return false;
-        }
-    }
-    true
+    (0..K::depth()).all(|k| pixel.sample(k) <= maxval)
 }
 
 impl<C: Codes, K: Kind> MemorySource<C, K> {
@@ -79,32 +70,28 @@ impl<C: Codes, K: Kind> MemorySource<C, K> {
     ) -> Result<MemorySource<C, K>, Refused<C>>
         ensures { MemoryMade K.ops C.codes codes width height maxval number result }
     {
-        let Ok(size) = Size::new(width, height, maxval) else {
-            return Err(Refused {
+        match (Size::new(width, height, maxval), u8::try_from(number)) {
+            (Ok(size), Ok(source)) if width as usize * height as usize <= codes.len() => Ok(
+                MemorySource {
+                    codes,
+                    size,
+                    source,
+                    count: 0,
+                    kind: PhantomData,
+                },
+            ),
+            _ => Err(Refused {
                 refusal: Refusal::OutsideLimits,
                 back: codes,
-            });
-        };
-        if number > 255 || (width as usize * height as usize) > codes.len() {
-            return Err(Refused {
-                refusal: Refusal::OutsideLimits,
-                back: codes,
-            });
+            }),
         }
-        Ok(MemorySource {
-            codes,
-            size,
-            source: number as u8,
-            count: 0,
-            kind: PhantomData,
-        })
     }
 }
 
 impl<C: Codes, K: Kind> Rows for MemorySource<C, K> {
     type Pixel = K;
 
-    ghost view = { λ s. memory_image K.ops (C.codes s.codes) s.size s.source };
+    ghost view = { remembered_of K.ops C.codes };
 
     ghost same = { λ s t. s ≡ t };
 
@@ -116,7 +103,7 @@ impl<C: Codes, K: Kind> Rows for MemorySource<C, K> {
 
     fn row(&mut self, left: u32, row: u32, out: &mut [u64]) -> Result<(), Fault> {
         let first = row as usize * self.size.width as usize + left as usize;
-        for k in 0..out.len() {
+        for (k, place) in out.iter_mut().enumerate() {
             let code = self.codes.get(first + k);
             if !is_pixel::<K>(code, self.size.maxval) {
                 return Err(Fault {
@@ -126,7 +113,7 @@ impl<C: Codes, K: Kind> Rows for MemorySource<C, K> {
                     row,
                 });
             }
-            out[k] = code;
+            *place = code;
         }
         Ok(())
     }
@@ -135,7 +122,7 @@ impl<C: Codes, K: Kind> Rows for MemorySource<C, K> {
 impl<C: Codes, K: Kind> Picture for MemorySource<C, K> {
     type Pixel = K;
 
-    ghost model = { λ s. sourced (memory_image K.ops (C.codes s.codes) s.size s.source) };
+    ghost model = { λ s. sourced (remembered_of K.ops C.codes s) };
 
     ghost count = { λ s. s.count };
 

@@ -1,7 +1,5 @@
 ghost use Rattle.std.specs.Prelude.{◌≡◌};
-ghost use Rattle.store.specs.Cells.{capped};
-ghost use Rattle.source.specs.Front.{available};
-ghost use Rattle.source.specs.Limits.{header_limit};
+ghost use Rattle.source.specs.Front.{beginning};
 ghost use Rattle.source.specs.Opening.{Opened, Opens};
 
 use crate::file::{BLOCK, FileSource};
@@ -16,15 +14,15 @@ use store::Store;
 impl<S: Store, K: Kind> FileSource<S, K> {
     /// Opens the picture that a store has, as the source of this number, or hands the store back.
     pub fn open(store: S, number: u32) -> Result<FileSource<S, K>, Refused<S>>
-        ensures value { Opened K.ops.mark (available (capped (S.at store)) 0 header_limit) store number result }
-        ensures law { Opens K.ops.mark (available (capped (S.at store)) 0 header_limit) number result }
+        ensures value { Opened K.ops.mark (beginning (S.at store)) store number result }
+        ensures law { Opens K.ops.mark (beginning (S.at store)) number result }
     {
-        if number > 255 {
+        let Ok(source) = u8::try_from(number) else {
             return Err(Refused {
                 refusal: Refusal::OutsideLimits,
                 back: store,
             });
-        }
+        };
         match read_header(&store, K::mark()) {
             Ok(
                 Header {
@@ -33,26 +31,24 @@ impl<S: Store, K: Kind> FileSource<S, K> {
                     maxval,
                     length,
                 },
-            ) => {
-                let raster = Raster {
+            ) => Ok(FileSource {
+                store,
+                raster: Raster {
                     start: length,
                     size: Size {
                         width,
                         height,
                         maxval,
                     },
-                    source: number as u8,
-                };
-                Ok(FileSource {
-                    store,
-                    raster,
-                    count: 0,
-                    block: [0; BLOCK],
-                    kind: PhantomData,
-                })
-            }
+                    source,
+                },
+                count: 0,
+                block: [0; BLOCK],
+                kind: PhantomData,
+            }),
+            // No `?`, since the store goes back too.
             Err(error) => Err(Refused {
-                refusal: error.refusal(),
+                refusal: Refusal::from(error),
                 back: store,
             }),
         }

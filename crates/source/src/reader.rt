@@ -1,5 +1,5 @@
 ghost use Rattle.std.specs.Prelude.{◌≡◌};
-ghost use Rattle.source.specs.Header.{answered, class_of, judged, moved, next, start};
+ghost use Rattle.source.specs.Header.{answered, class_of, judged, moved, next};
 ghost use Rattle.source.specs.Limits.{limit_of};
 
 use crate::header::HeaderError;
@@ -27,9 +27,10 @@ pub enum Field {
 }
 
 /// Where a reader stands.
-#[derive(Clone, Copy)]
+#[derive(Clone, Copy, Default)]
 pub enum State {
     /// Right behind the mark.
+    #[default]
     Marked,
     /// In the gap before a number.
     Gap(Field),
@@ -41,8 +42,8 @@ pub enum State {
     Done,
 }
 
-/// A reader, and the numbers that it has read.
-#[derive(Clone, Copy)]
+/// A reader, and the numbers that it has read; by default it stands behind the mark.
+#[derive(Clone, Copy, Default)]
 pub struct Reader {
     pub state: State,
     pub width: u32,
@@ -50,11 +51,10 @@ pub struct Reader {
     pub maxval: u16,
 }
 
-impl Class {
-    /// The class of a byte.
-    fn of(b: u8) -> Class
-        ensures { result ≡ class_of b }
-    {
+impl From<u8> for Class {
+    ghost from_gives = { λ b class. class ≡ class_of b };
+
+    fn from(b: u8) -> Class {
         match b {
             b'\n' => Class::Newline,
             b' ' | b'\t' | b'\r' => Class::White,
@@ -78,18 +78,6 @@ impl Field {
 }
 
 impl Reader {
-    /// A reader behind the mark.
-    pub fn new() -> Reader
-        ensures { result ≡ start }
-    {
-        Reader {
-            state: State::Marked,
-            width: 0,
-            height: 0,
-            maxval: 0,
-        }
-    }
-
     /// Judges a number by the white byte behind it, which is at `place`.
     fn judge(&mut self, place: u32, field: Field, value: u32) -> Result<(), HeaderError>
         ensures answer { result ≡ answered (judged place field value self.old) }
@@ -120,7 +108,7 @@ impl Reader {
         ensures answer { result ≡ answered (next place self.old.state (class_of b) self.old) }
         ensures after { self.new ≡ moved (next place self.old.state (class_of b) self.old) self.old }
     {
-        match (self.state, Class::of(b)) {
+        match (self.state, Class::from(b)) {
             (State::Marked, Class::Newline | Class::White) => self.state = State::Gap(Field::Width),
             (State::Gap(_), Class::Newline | Class::White) => {}
             (State::Gap(field), Class::Hash) => self.state = State::Comment(field),

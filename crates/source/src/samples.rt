@@ -1,58 +1,51 @@
-ghost use Rattle.std.specs.Prelude.{◌≡◌, ℕ, ◌+◌, ◌*◌, ◌<◌, ◌≤◌, Bool, length};
-ghost use Rattle.source.specs.Raster.{sample_bytes, sample_of, code_of, from};
+ghost use Rattle.std.specs.Prelude.{◌≡◌, ◌+◌, ◌*◌, ◌<◌, ◌≤◌, length, slice_index};
+ghost use Rattle.source.specs.Files.{pixel_bytes};
+ghost use Rattle.source.specs.Raster.{sample_bytes, sample_of, code_of, wide};
 ghost use Rattle.source.specs.Runs.{Decoded};
 
-use pixel::Kind;
+use pixel::{Kind, pixel_bytes};
 
-/// How many bytes a pixel has.
-pub fn pixel_bytes<K: Kind>(wide: bool) -> usize
-    ensures value { result ≡ K.ops.depth * sample_bytes wide }
-    ensures some { 1 ≤ result }
-    ensures few { result ≤ 6 }
-{
-    if wide { 2 * K::depth() } else { K::depth() }
-}
-
-/// The sample of this index of the pixel whose bytes begin at `start`.
-fn sample(bytes: &[u8], start: usize, index: usize, wide: bool) -> u16
+/// The sample of this index of the pixel that these bytes begin with.
+fn sample(pixel: &[u8], index: usize, wide: bool) -> u16
     requires few { index < 3 }
-    requires room { start + (index + 1) * sample_bytes wide ≤ length bytes.now }
-    ensures { result ≡ sample_of wide (from bytes.now start) index }
+    requires room { (index + 1) * sample_bytes wide ≤ length pixel.now }
+    ensures { result ≡ sample_of wide (slice_index pixel.now) index }
 {
     if wide {
-        bytes[start + 2 * index] as u16 * 256 + bytes[start + 2 * index + 1] as u16
+        u16::from_be_bytes([pixel[2 * index], pixel[2 * index + 1]])
     } else {
-        bytes[start + index] as u16
+        u16::from(pixel[index])
     }
 }
 
-/// The code of the pixel whose bytes begin at `start`, or none where a sample is above maxval.
-fn pixel_code<K: Kind>(bytes: &[u8], start: usize, wide: bool, maxval: u16) -> Option<u64>
-    requires { start + K.ops.depth * sample_bytes wide ≤ length bytes.now }
-    ensures { result ≡ code_of K.ops wide maxval (from bytes.now start) }
+/// The code of the pixel that these bytes begin with, or none where a sample is above maxval.
+fn pixel_code<K: Kind>(pixel: &[u8], wide: bool, maxval: u16) -> Option<u64>
+    requires { K.ops.depth * sample_bytes wide ≤ length pixel.now }
+    ensures { result ≡ code_of K.ops wide maxval (slice_index pixel.now) }
 {
-    let mut code = 0u64;
+    let mut code = 0;
     for k in 0..K::depth() {
-        let value = sample(bytes, start, k, wide);
+        let value = sample(pixel, k, wide);
         if value > maxval {
             return None;
         }
-        code = code * 65_536 + value as u64;
+        code = code * 65_536 + u64::from(value);
     }
     Some(code)
 }
 
 /// Takes pixel after pixel from their bytes, up to the first with a sample above maxval, and says how many.
-pub fn decode<K: Kind>(bytes: &[u8], wide: bool, maxval: u16, out: &mut [u64]) -> usize
-    requires { length out.old * (K.ops.depth * sample_bytes wide) ≤ length bytes.now }
-    ensures { Decoded K.ops wide maxval bytes.now (length out.old) result out.new }
+pub fn decode<K: Kind>(bytes: &[u8], maxval: u16, out: &mut [u64]) -> usize
+    requires { length out.old * pixel_bytes K.ops maxval ≤ length bytes.now }
+    ensures { Decoded K.ops (wide maxval) maxval bytes.now (length out.old) result out.new }
 {
-    let step = pixel_bytes::<K>(wide);
-    for k in 0..out.len() {
-        match pixel_code::<K>(bytes, k * step, wide, maxval) {
-            Some(code) => out[k] = code,
-            None => return k,
-        }
+    let wide = maxval >= 256;
+    let step = pixel_bytes::<K>(maxval);
+    for (k, place) in out.iter_mut().enumerate() {
+        let Some(code) = pixel_code::<K>(&bytes[k * step..], wide, maxval) else {
+            return k;
+        };
+        *place = code;
     }
     out.len()
 }

@@ -1,5 +1,5 @@
 -- What a read of a slice answers, some of whose sectors are unread.
-use Rattle.std.proofs.Common.{◌≡◌, ℕ, ◌+◌, ◌-◌, ◌*◌, ◌/◌, ◌^◌, ◌<◌, ◌≤◌, min, Bool, true, false, eqb, List, length, get_or, Ok, Err, Result, sym, refl, ap, ◌∙◌, ⊎_elim, arith}
+use Rattle.std.proofs.Common.{◌≡◌, ℕ, ◌+◌, ◌-◌, ◌*◌, ◌/◌, ◌^◌, ◌<◌, ◌≤◌, min, max, Bool, true, false, eqb, List, length, get_or, Ok, Err, Result, sym, refl, ap, ◌∙◌, ⊎_elim, arith}
 use Rattle.std.specs.List.{IsAnyAnswer}
 use Rattle.std.proofs.lemmas.List.Elements.{contains_decides}
 use Rattle.std.proofs.lemmas.Bool.{cases_lt}
@@ -39,20 +39,24 @@ none_unread bs bad p n s i h =
     answer_same (capped (in_sectors bs bad)) (capped (in_bytes bs)) p p n refl
     (λ k l. ⊎_elim (λ b. readable bs bad (p + k) (h (p + k) (omega arith) b)) (λ b. behind bs bad (p + k) (omega arith)) (cases_lt (p + k) s))
 
+-- none of the places from p on, before sector k, is in a listed sector
+abbrev pub Clear : List ℕ → ℕ → ℕ → Type 0
+Clear bad p k = (q : ℕ) → p ≤ q → q < k * 2048 → listed bad (q / 2048) ≡ false
+
 -- the first place of a listed sector is named
-pub first_unread : (bs bad : List ℕ) (p n q s : ℕ) → s ≡ min (min (2 ^ 48) (length bs)) (min (p + n) (2 ^ 64 - 1)) → p ≤ q → q < s
-    → ((j : ℕ) → p ≤ j → j < q → j < s → listed bad (j / 2048) ≡ false) → listed bad (q / 2048) ≡ true
-    → answer (capped (in_sectors bs bad)) p n ≡ Err (Unread q)
-first_unread bs bad p n q s i l u h e =
+pub first_unread : (bs bad : List ℕ) (p n k q s : ℕ) → s ≡ min (min (2 ^ 48) (length bs)) (min (p + n) (2 ^ 64 - 1)) → q ≡ max p (k * 2048) → p / 2048 ≤ k → q < s
+    → Clear bad p k → listed bad k ≡ true → answer (capped (in_sectors bs bad)) p n ≡ Err (Unread q)
+first_unread bs bad p n k q s i m l u h e =
     let z : p + (q - p) ≡ q = omega arith in
+    let w : q / 2048 ≡ k = omega arith in
     answer_stop (capped (in_sectors bs bad)) p (q - p) n unread (Unread q) (omega arith)
     (answer_by (capped (in_sectors bs bad)) p (q - p)
-    (λ k d. (get_or bs (p + k) 0, readable bs bad (p + k) (h (p + k) (omega arith) (omega arith) (omega arith)) ∙ byte_at bs (p + k) (omega arith))))
-    (ap (capped (in_sectors bs bad)) z ∙ unread_at bs bad q (omega arith) e) (λ r. ap (λ y. Err (Unread y)) z)
+    (λ j d. (get_or bs (p + j) 0, readable bs bad (p + j) (h (p + j) (omega arith) (omega arith)) ∙ byte_at bs (p + j) (omega arith))))
+    (ap (capped (in_sectors bs bad)) z ∙ unread_at bs bad q (omega arith) (ap (listed bad) w ∙ e)) (λ r. ap (λ y. Err (Unread y)) z)
 
--- the places of a sector have one sector
-pub same_sector : (q j : ℕ) → q ≤ j → j < (q / 2048 + 1) * 2048 → j / 2048 ≡ q / 2048
-same_sector q j h l = omega arith
+pub clear_more : (bad : List ℕ) (p k : ℕ) → Clear bad p k → listed bad k ≡ false → Clear bad p (k + 1)
+clear_more bad p k h e q l u =
+    ⊎_elim (h q l) (λ d. let w : q / 2048 ≡ k = omega arith in ap (listed bad) w ∙ e) (cases_lt q (k * 2048))
 
 -- where a read is answered, a read of the slice serves
 pub served : (bs bad : List ℕ) (p : ℕ) (old : List ℕ) (r : Result Unit Lack) (new : List ℕ) → answer (capped (in_sectors bs bad)) p (length old) ≡ Ok tt

@@ -24,10 +24,13 @@ impl<A: Store, B: Store> Store for Joined<A, B> {
         let low = inside.min(self.from.saturating_sub(place) as usize);
         let start = place.saturating_sub(self.from);
         self.first.check(place, low)?;
-        match self.second.check(start, inside - low) {
-            Err(lack) => Err(lack.moved(self.from)),
-            Ok(()) if inside < count => Err(Lack::Missing(place.max(END))),
-            Ok(()) => Ok(()),
+        self.second
+            .check(start, inside - low)
+            .map_err(|lack| lack.moved(self.from))?;
+        if inside < count {
+            Err(Lack::Missing(place.max(END)))
+        } else {
+            Ok(())
         }
     }
 

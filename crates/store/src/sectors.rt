@@ -22,13 +22,12 @@ impl<'a> Store for Sectors<'a> {
     fn check(&self, place: u64, count: usize) -> Result<(), Lack> {
         let end = END.min(self.bytes.len() as u64);
         let stop = end.min(place.saturating_add(count as u64));
-        let mut at = place;
-        while at < stop {
-            let sector = at / SECTOR;
-            if self.unread.contains(&sector) {
-                return Err(Lack::Unread(at));
+        if place < stop {
+            for sector in place / SECTOR..stop.div_ceil(SECTOR) {
+                if self.unread.contains(&sector) {
+                    return Err(Lack::Unread(place.max(sector * SECTOR)));
+                }
             }
-            at = (sector + 1) * SECTOR;
         }
         Bytes { bytes: self.bytes }.check(place, count)
     }

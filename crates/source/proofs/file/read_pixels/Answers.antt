@@ -39,3 +39,14 @@ returns-in-Err g c =
     loaded_some (capped (g.S.Store.at c.args.store.now)) c.args.place c.args.step c.args.count _ _ c.in-Err.lack c.cause_of.result _ c.read-in-Err.new.buffer _
     c.requires.some c.in-Err.ensures.answer (simp length-take (omega arith)) (ap (λ z. (z - c.args.place) / c.args.step) c.place.ensures)
     (simp (length-take, length-append) (omega arith)) c.read-in-Err.auto.buffer c.read-in-Err.ensures.buffer c.cause_of.ensures
+
+pub slice_bounds-read-end-in-Err-2 : goal.slice_bounds-read-end-in-Err-2
+slice_bounds-read-end-in-Err-2 g c =
+    let at = capped (g.S.Store.at c.args.store.now) in
+    let e : Err c.in-Err.lack ≡ answer at c.args.place (c.args.count * c.args.step) =
+    c.in-Err.ensures.answer ∙ ap (answer at c.args.place) (simp length-take (omega arith)) in
+    let k = (lacked at c.args.place c.args.step c.args.count c.in-Err.lack c.requires.some e).1 in
+    let s : (c.place.result - c.args.place) / c.args.step * c.args.step ≤ c.args.count * c.args.step =
+    subst (λ z. (z - c.args.place) / c.args.step * c.args.step ≤ c.args.count * c.args.step) (sym c.place.ensures) k.bytes in
+    let l : length c.read.new.buffer ≡ c.args.count * c.args.step = c.read.auto.buffer ∙ simp length-take (omega arith) in
+    simp (length-take, length-append) (omega arith)

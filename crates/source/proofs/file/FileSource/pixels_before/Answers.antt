@@ -1,27 +1,24 @@
-use Rattle.std.proofs.Common.{◌≡◌, ◌+◌, ◌-◌, ◌/◌, ◌≤◌, sym, ap, ◌∙◌, arith}
-use Rattle.std.proofs.lemmas.Bool.{cond-true, cond-false, le-leb, lt-leb}
+use Rattle.std.proofs.Common.{◌≡◌, ◌-◌, ◌*◌, ◌≤◌, ap, ◌∙◌, arith}
+use Rattle.std.proofs.lemmas.Grind.{div_ceil_times}
+use Rattle.std.specs.Int.{div_ceil}
 use Rattle.store.specs.Cells.{capped}
 use Rattle.source.specs.Files.{pixel_bytes}
-use Rattle.source.proofs.Losing.{lost-behind}
+use Rattle.source.proofs.Losing.{lost-behind, reached_up}
+use Rattle.source.proofs.Widths.{same_width}
 use Rattle.source.proofs.file.FileSource.pixels_before.Goals as goal
 
-pub returns-then-end-start : goal.returns-then-end-start
-returns-then-end-start g c =
+pub returns : goal.returns
+returns g c =
+    let o = g.K.Kind.ops in
     let r = c.args.self.now.raster in
-    let h : 1 ≤ pixel_bytes g.K.Kind.ops r.size.maxval = omega (arith, c.pixel_bytes-step.ensures.value, c.pixel_bytes-step.ensures.some) in
+    let n = pixel_bytes o r.size.maxval in
+    let same : c.pixel_bytes-step.result ≡ pixel_bytes o r.size.maxval = c.pixel_bytes-step.ensures.value ∙ same_width o r.size.maxval in
+    let some : 1 ≤ pixel_bytes o r.size.maxval = omega (arith, same, c.pixel_bytes-step.ensures.some) in
+    let up : c.div_ceil.result ≡ div_ceil (c.args.end - r.start) (pixel_bytes o r.size.maxval) =
+    c.div_ceil.ensures ∙ ap (λ m. div_ceil m c.pixel_bytes-step.result) c.saturating_sub.ensures ∙ ap (div_ceil (c.args.end - r.start)) same in
+    let long = (div_ceil_times (c.args.end - r.start) n some).0 in
+    let reach : c.args.end - r.start ≤ c.div_ceil.result * pixel_bytes o r.size.maxval = omega (arith, long, ap (λ m. m * n) up) in
     record {
-      value = sym (cond-true _ _ _ (le-leb c.args.end r.start c.if-end-start.true));
-      law = lost-behind g.K.Kind.ops (capped (g.S.Store.at c.args.self.now.store)) r c.args.end 0 h (λ lt. absurd (omega (arith, c.if-end-start.true)));
-    }
-
-pub returns-else-end-start : goal.returns-else-end-start
-returns-else-end-start g c =
-    let r = c.args.self.now.raster in
-    let step = pixel_bytes g.K.Kind.ops r.size.maxval in
-    let h : 1 ≤ step = omega (arith, c.pixel_bytes-step.ensures.value, c.pixel_bytes-step.ensures.some) in
-    let e : (c.args.end - r.start - 1) / c.pixel_bytes-step.result + 1 ≡ (c.args.end - r.start - 1) / step + 1 =
-    ap (λ s. (c.args.end - r.start - 1) / s + 1) c.pixel_bytes-step.ensures.value in
-    record {
-      value = e ∙ sym (cond-false _ _ _ (lt-leb c.args.end r.start c.if-end-start.false));
-      law = lost-behind g.K.Kind.ops (capped (g.S.Store.at c.args.self.now.store)) r c.args.end _ h (λ lt. omega (arith, e));
+      value = up ∙ reached_up r.start c.args.end n some;
+      law = lost-behind o (capped (g.S.Store.at c.args.self.now.store)) r c.args.end c.div_ceil.result some reach;
     }

@@ -1,56 +1,56 @@
-use Rattle.std.proofs.Common.{◌≡◌, ℕ, ◌+◌, length, Err, sym, ap, ◌∙◌, subst, arith, rules}
-use Rattle.store.specs.Cells.{capped}
+use Rattle.std.proofs.Common.{◌≡◌, ℕ, ◌+◌, ◌-◌, ◌*◌, length, Err, sym, ap, ◌∙◌, arith, rules}
+use Rattle.std.proofs.lemmas.List.{length-take, length-drop}
+use Rattle.std.proofs.lemmas.Result.{err_from_is_err_and}
 use Rattle.picture.specs.Prepare.{Shown, coded, first_in, lined, or_fault}
 use Rattle.picture.proofs.Faults.{first_moved, first_on, line_on, shown_clean}
 use Rattle.picture.proofs.Serving.{shown_more}
-use Rattle.source.specs.Files.{raster_image}
+use Rattle.source.specs.declared.raster.Raster.{Raster}
+use Rattle.source.specs.Showing.{same_shown, shown_of}
 use Rattle.source.proofs.file.FileSourceRows.row.Goals as goal
 
-pub loop-done-preserved : goal.loop-done-preserved
-loop-done-preserved g c =
+pub run-requires-clause-across : goal.run-requires-clause-across
+run-requires-clause-across g c =
+    let w = ap (λ (r : Raster). r.size.width) c.loop-i.invariant.1.1 in simp (length-take, length-drop) (omega (arith, w))
+
+pub run-requires-clause-down : goal.run-requires-clause-down
+run-requires-clause-down g c = let h = ap (λ (r : Raster). r.size.height) c.loop-i.invariant.1.1 in omega arith
+
+pub loop-i-preserved : goal.loop-i-preserved
+loop-i-preserved g c =
     let o = g.K.Kind.ops in
-    let self = c.args.self.now in
-    let i = raster_image o (capped (g.S.Store.at self.store)) self.raster in
-    let v : i ≡ raster_image o (capped (g.S.Store.at c.loop-done.self.store)) c.loop-done.self.raster =
-    ap (λ z. raster_image o (capped (g.S.Store.at z)) self.raster) c.loop-done.invariant.2 ∙ ap (raster_image o (capped (g.S.Store.at c.loop-done.self.store))) c.loop-done.invariant.3 in
-    let l : length c.run.new.out ≡ c.min-n.result = search rules in (
-      search rules,
-      shown_more o (lined i c.args.left c.args.row) c.loop-done.out c.run.new.out c.loop-done.done _ c.min-n.result c.loop-done.invariant.0 l c.loop-done.invariant.1
-          (λ k h. ap (coded o) (sym (line_on i c.args.left c.args.row c.loop-done.done k))
-          ∙ ap (λ z. coded o (lined z (c.args.left + c.loop-done.done) c.args.row k)) v
-          ∙ c.run.ensures.shown c.in-Ok.is k (omega (arith, c.run.auto.out))),
-      c.loop-done.invariant.2 ∙ sym c.run.ensures.store,
-      c.loop-done.invariant.3 ∙ sym c.run.ensures.raster,
-      c.loop-done.invariant.4 ∙ sym c.run.ensures.count,
+    let from = c.loop-i.i * 1024 in
+    let i = shown_of o g.S.Store.at c.args.self.now in
+    let v = same_shown o g.S.Store.at c.args.self.now c.loop-i.self c.loop-i.invariant.1 in
+    let l : length c.run.new.out ≡ c.min-end.result - from = search rules in (
+      λ k h. shown_more o (lined i c.args.left c.args.row) c.loop-i.out c.run.new.out from _ (c.min-end.result - from) (omega arith) l
+          (λ j d. c.loop-i.invariant.0 j (omega arith))
+          (λ j d. ap (coded o) (sym (line_on i c.args.left c.args.row from j)) ∙ ap (λ z. coded o (lined z (c.args.left + from) c.args.row j)) v
+          ∙ c.run.ensures.shown c.in_ok-run.was j (omega (arith, c.run.auto.out)))
+          k (omega arith),
+      (c.loop-i.invariant.1.0 ∙ c.run.ensures.same.0, c.loop-i.invariant.1.1 ∙ c.run.ensures.same.1, c.loop-i.invariant.1.2 ∙ c.run.ensures.same.2),
     )
 
-pub returns-in-Err : goal.returns-in-Err
-returns-in-Err g c =
+pub returns-in_err-run : goal.returns-in_err-run
+returns-in_err-run g c =
     let o = g.K.Kind.ops in
-    let self = c.args.self.now in
-    let i = raster_image o (capped (g.S.Store.at self.store)) self.raster in
-    let v : i ≡ raster_image o (capped (g.S.Store.at c.loop-done.self.store)) c.loop-done.self.raster =
-    ap (λ z. raster_image o (capped (g.S.Store.at z)) self.raster) c.loop-done.invariant.2 ∙ ap (raster_image o (capped (g.S.Store.at c.loop-done.self.store))) c.loop-done.invariant.3 in
-    let l : length c.run.new.out ≡ c.min-n.result = search rules in
-    let a : Err c.in-Err.fault ≡ first_in (lined i (c.args.left + c.loop-done.done) c.args.row) c.min-n.result =
-    first_moved i _ (c.args.left + c.loop-done.done) c.args.row _ c.min-n.result _ c.in-Err.ensures.answer v (sym c.run.auto.out ∙ l) in
+    let from = c.loop-i.i * 1024 in
+    let i = shown_of o g.S.Store.at c.args.self.now in
+    let p = err_from_is_err_and c.from_residual.result c.from_residual.ensures.1 in
+    let v = same_shown o g.S.Store.at c.args.self.now c.loop-i.self c.loop-i.invariant.1 in
+    let l : length c.run.new.out ≡ c.min-end.result - from = search rules in
+    let a : Err c.in_err-run.field-0.0 ≡ first_in (lined i (c.args.left + from) c.args.row) (c.min-end.result - from) =
+    first_moved i _ (c.args.left + from) c.args.row _ (c.min-end.result - from) _ c.in_err-run.ensures.answer v (sym c.run.auto.out ∙ l) in
     record {
-      answer = first_on i c.args.left c.args.row c.loop-done.done c.min-n.result (length c.args.out.now) c.in-Err.fault
-          (shown_clean o (lined i c.args.left c.args.row) c.loop-done.done c.loop-done.out c.loop-done.invariant.1) a (omega arith);
-      shown = λ z. let n : ◌≡◌ {A = ℕ} 0 1 = cc in absurd (omega arith);
-      same = (c.loop-done.invariant.2 ∙ sym c.run.ensures.store, c.loop-done.invariant.3 ∙ sym c.run.ensures.raster, c.loop-done.invariant.4 ∙ sym c.run.ensures.count);
+      answer = p.1 ∙ ap Err p.2
+          ∙ first_on i c.args.left c.args.row from (c.min-end.result - from) (length c.args.out.now) c.in_err-run.field-0.0
+          (shown_clean o (lined i c.args.left c.args.row) from c.loop-i.out (λ j d. c.loop-i.invariant.0 j (omega arith))) a (omega arith);
+      shown = λ z. let y = p.1 in let n : ◌≡◌ {A = ℕ} 0 1 = cc in absurd (omega arith);
+      same = (c.loop-i.invariant.1.0 ∙ c.run.ensures.same.0, c.loop-i.invariant.1.1 ∙ c.run.ensures.same.1, c.loop-i.invariant.1.2 ∙ c.run.ensures.same.2);
     }
 
 pub returns : goal.returns
 returns g c =
     let o = g.K.Kind.ops in
-    let self = c.args.self.now in
-    let i = raster_image o (capped (g.S.Store.at self.store)) self.raster in
-    let e : c.loop-done.done ≡ length c.args.out.now = omega (arith, c.loop-done.invariant.0) in
-    let s : Shown o (lined i c.args.left c.args.row) (length c.args.out.now) c.loop-done.out =
-    subst (λ n. Shown o (lined i c.args.left c.args.row) n c.loop-done.out) e c.loop-done.invariant.1 in
-    record {
-      answer = ap or_fault (sym (shown_clean o (lined i c.args.left c.args.row) (length c.args.out.now) c.loop-done.out s));
-      shown = λ z. s;
-      same = (c.loop-done.invariant.2, c.loop-done.invariant.3, c.loop-done.invariant.4);
-    }
+    let f = lined (shown_of o g.S.Store.at c.args.self.now) c.args.left c.args.row in
+    let s : Shown o f (length c.args.out.now) c.loop-i.out = λ k h. c.loop-i.invariant.0 k (omega arith) in
+    record { answer = ap or_fault (sym (shown_clean o f (length c.args.out.now) c.loop-i.out s)); shown = λ z. s; same = c.loop-i.invariant.1 }

@@ -1,16 +1,10 @@
-use Rattle.std.proofs.Common.{◌≡◌, ◌-◌, ◌≤◌, length}
-use Rattle.store.specs.Cells.{capped}
+use Rattle.std.proofs.Common.{◌*◌, length, min}
 use Rattle.picture.specs.Prepare.{Shown, lined}
-use Rattle.source.specs.Files.{raster_image}
+use Rattle.source.specs.Showing.{SameFile, shown_of}
 use Rattle.source.proofs.file.FileSourceRows.row.Given as goal
 
-abbrev pub invariant-loop-done : goal.invariant-loop-done
-invariant-loop-done g l =
-    (l.done ≤ length l.out)
-    × Shown g.K.Kind.ops (lined (raster_image g.K.Kind.ops (capped (g.S.Store.at l.initial.self.store)) l.initial.self.raster) l.left l.row) l.done l.out
-    × (l.initial.self.store ≡ l.self.store)
-    × (l.initial.self.raster ≡ l.self.raster)
-    × (l.initial.self.count ≡ l.self.count)
-
-abbrev pub decreases-loop-done : goal.decreases-loop-done
-decreases-loop-done g l = length l.initial.out - l.done
+-- the runs so far are shown
+abbrev pub invariant-loop-i : goal.invariant-loop-i
+invariant-loop-i g l =
+    Shown g.K.Kind.ops (lined (shown_of g.K.Kind.ops g.S.Store.at l.initial.self) l.left l.row) (min (length l.initial.out) (l.i * 1024)) l.out
+    × SameFile l.initial.self l.self
