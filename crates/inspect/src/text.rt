@@ -1,5 +1,5 @@
 use inspection::{Details, Mark, Report};
-use picture::{Cause, LIMIT, Size};
+use picture::{Cause, LIMIT, Refusal, Size};
 use source::{HEADER_LIMIT, HeaderError};
 use std::fmt;
 use survey::{Range, Survey};
@@ -57,7 +57,7 @@ struct Refused<'a> {
 impl<'a> fmt::Display for Refused<'a> {
     fn fmt<W: fmt::Write>(&self, f: &mut fmt::Formatter<W>) -> fmt::Result {
         let Refused { bytes, mark, error } = *self;
-        let number = error.refusal().number();
+        let number = Refusal::from(error).number();
         write!(f, "refused {number}: ")?;
         match error {
             HeaderError::Mark => {

@@ -6,6 +6,7 @@ use Rattle.store.specs.Cells.{Cell, capped}
 use Rattle.store.specs.Stores.{in_bytes}
 use Rattle.picture.specs.declared.fault.Fault.{Fault}
 use Rattle.picture.specs.Places.{or_else}
+use Rattle.source.specs.declared.file.FileSource.{FileSource}
 use Rattle.source.specs.declared.raster.Raster.{Raster}
 use Rattle.source.specs.Front.{available}
 use Rattle.source.specs.declared.header.HeaderError.{HeaderError}
@@ -13,6 +14,7 @@ use Rattle.source.specs.Header.{header_of}
 use Rattle.source.specs.Limits.{header_limit}
 use Rattle.source.specs.Files.{raster_image}
 use Rattle.source.specs.Opening.{headed}
+use Rattle.source.specs.Showing.{shown_of}
 use Rattle.survey.specs.declared.findings.Survey.{Survey}
 use Rattle.survey.specs.Surveys.{surveyed}
 use Rattle.inspection.specs.declared.report.Details.{Details}
@@ -36,9 +38,9 @@ abbrev pub mark_of : List ℕ → ℕ
 mark_of bytes = cond (slice_index bytes 1 == 54) 54 53
 
 module _ {K S : Type 0} (o : Ops K S) where
-  -- the survey of every place
-  abbrev pub whole : (ℕ → Cell) → Raster → Survey
-  whole at r = surveyed o (raster_image o at r) (r.size.width * r.size.height)
+  -- the survey of every place of a file
+  abbrev pub whole : {T : Type 0} → (T → ℕ → Cell) → FileSource T K → Survey
+  whole at f = surveyed o (shown_of o at f) (f.raster.size.width * f.raster.size.height)
 
   -- the header is refused so, or it has these numbers and the survey is that of every place of the picture behind it, as source 0
   abbrev pub Found : (ℕ → Cell) → Result Details HeaderError → Type 0

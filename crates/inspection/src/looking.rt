@@ -27,7 +27,7 @@ fn lose(mut survey: Survey, count: u64, fault: Fault) -> Survey
 /// Surveys a file whose store has no byte from `end` on. It prepares only places that may have one, so the work grows with the store and not with the numbers in the header.
 fn look<S: Store, K: Kind>(file: &mut FileSource<S, K>, end: u64) -> Survey
     requires { Silent (capped (S.at file.old.store)) end }
-    ensures value { result ≡ whole K.ops (capped (S.at file.old.store)) file.old.raster }
+    ensures value { result ≡ whole K.ops S.at file.old }
     ensures quick { file.new.count ≤ file.old.count + 2 * end + 12 }
 {
     let raster = file.raster();
@@ -55,7 +55,7 @@ fn tell<S: Store, K: Kind>(file: &mut FileSource<S, K>, end: u64) -> Details
     ensures size { result.size ≡ file.old.raster.size }
     ensures header { result.header ≡ file.old.raster.start }
     ensures prepares { result.prepares ≡ file.new.count }
-    ensures survey { result.survey ≡ whole K.ops (capped (S.at file.old.store)) file.old.raster }
+    ensures survey { result.survey ≡ whole K.ops S.at file.old }
     ensures quick { result.prepares ≤ file.old.count + 2 * end + 12 }
 {
     let raster = file.raster();

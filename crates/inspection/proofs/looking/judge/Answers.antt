@@ -4,7 +4,6 @@ use Rattle.picture.specs.declared.size.Size.{Size}
 use Rattle.source.specs.declared.header.Header.{Header}
 use Rattle.source.specs.Files.{raster_image}
 use Rattle.survey.specs.Surveys.{surveyed}
-use Rattle.inspection.specs.Reports.{whole}
 use Rattle.inspection.proofs.Tails.{drawn_same}
 use Rattle.inspection.proofs.looking.judge.Goals as goal
 
@@ -23,7 +22,7 @@ returns-in-Ok-clause-found g c =
       v.4 ∙ ap (λ z. Ok (header z r.start)) (sym q) ∙ ap (λ z. Ok (header d.size z)) (sym c.tell.ensures.header),
       λ s e z.
           c.tell.ensures.survey
-          ∙ ap (λ t. whole o (capped (g.S.Store.at t)) r) v.0
+          ∙ ap (λ t. surveyed o (raster_image o (capped (g.S.Store.at t)) r) (r.size.width * r.size.height)) v.0
           ∙ ap (λ i. surveyed o i (r.size.width * r.size.height)) (drawn_same o at r s (cc (v.4, e)) (v.2 ∙ sym z))
           ∙ ap (λ (t : Size). surveyed o (raster_image o at s) (t.width * t.height)) (sym q),
     )
