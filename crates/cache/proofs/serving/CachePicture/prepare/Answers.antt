@@ -19,12 +19,12 @@ returns-then-rect-size g c =
       | then-rect-size-via-then-rect-size w ↦ inl (omega (arith, w.if-rect-size.true, c.size-size.ensures.width))
       | then-rect-size-via-else-rect-size+then-rect-size-2 w ↦ inr (omega (arith, w.if-rect-size-2.true, c.size-size.ensures.height))
     ] in
-    refused_so g.P.Pixel.Kind.ops g.P.Picture.model g.P.Picture.count was was.ready r c.args.buffer.now _ c.saturating_add-self.ensures refl refl refl (Err NotInside) (not_inside g.P.Pixel.Kind.ops b was.shape r c.args.buffer.now out)
+    refused_so was r c.args.buffer.now _ c.saturating_add-self.ensures refl refl refl (Err NotInside) (not_inside g.P.Pixel.Kind.ops b was.shape r c.args.buffer.now out)
 
 pub returns-then-area-buffer : goal.returns-then-area-buffer
 returns-then-area-buffer g c =
     let was = c.args.self.now in
-    refused_so g.P.Pixel.Kind.ops g.P.Picture.model g.P.Picture.count was was.ready c.args.rect c.args.buffer.now _ c.saturating_add-self.ensures refl refl refl (Err BufferTooShort)
+    refused_so was c.args.rect c.args.buffer.now _ c.saturating_add-self.ensures refl refl refl (Err BufferTooShort)
     (too_short g.P.Pixel.Kind.ops (g.P.Picture.model was.below).shown was.shape c.args.rect c.args.buffer.now (omega (arith, c.if-rect-size.false, c.size-size.ensures.width)) (omega (arith, c.if-rect-size-2.false, c.size-size.ensures.height)) (omega (arith, c.if-area-buffer.true, c.area.ensures)))
 
 pub returns-then-is_ok : goal.returns-then-is_ok
@@ -32,7 +32,7 @@ returns-then-is_ok g c =
     let was = c.args.self.now in
     let is = ok_of c.walk.result (sym c.is_ok.ensures.value ∙ c.if-is_ok.true) in
     let w = c.walk.ensures.went in
-    served_so g.P.Pixel.Kind.ops g.P.Picture.model g.P.Picture.count was was.ready c.args.rect c.args.buffer.now (omega (arith, c.if-rect-size.false, c.size-size.ensures.width)) (omega (arith, c.if-rect-size-2.false, c.size-size.ensures.height)) (omega (arith, c.if-area-buffer.false, c.area.ensures))
+    served_so was c.args.rect c.args.buffer.now (omega (arith, c.if-rect-size.false, c.size-size.ensures.width)) (omega (arith, c.if-rect-size-2.false, c.size-size.ensures.height)) (omega (arith, c.if-area-buffer.false, c.area.ensures))
     c.walk.new.buffer c.walk.auto.buffer c.walk.ensures.rest
     _ (w.counted ∙ c.saturating_add-self.ensures) w.shape w.keeps (ap (λ r. walk_of r (state_of g.P.Picture.count c.walk.new.self)) (sym is) ∙ w.machine) (IfOk-at_ok _ is c.walk.ensures.served)
 
@@ -47,7 +47,7 @@ returns g c =
     let was = c.args.self.now in
     let is = err_of c.walk.result (sym c.is_ok.ensures.value ∙ c.if-is_ok.false) in
     let w = c.walk.ensures.went in
-    passed_so g.P.Pixel.Kind.ops g.P.Picture.model g.P.Picture.count was was.ready c.args.rect c.args.buffer.now (omega (arith, c.if-rect-size.false, c.size-size.ensures.width)) (omega (arith, c.if-rect-size-2.false, c.size-size.ensures.height)) (omega (arith, c.if-area-buffer.false, c.area.ensures))
+    passed_so was c.args.rect c.args.buffer.now (omega (arith, c.if-rect-size.false, c.size-size.ensures.width)) (omega (arith, c.if-rect-size-2.false, c.size-size.ensures.height)) (omega (arith, c.if-area-buffer.false, c.area.ensures))
     c.walk.new.buffer c.walk.auto.buffer c.walk.ensures.rest
     _ c.walk.new.self (w.counted ∙ c.saturating_add-self.ensures) w.shape w.keeps (ap (λ r. walk_of r (state_of g.P.Picture.count c.walk.new.self)) (sym is.1) ∙ w.machine)
     (ap (counting c.walk.new.self.tiles) c.saturating_add.ensures) c.prepare.result c.prepare.new.buffer c.prepare.ensures
