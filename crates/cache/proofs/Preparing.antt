@@ -1,9 +1,8 @@
 -- A prepare by tiles: what it answers, and what the machine has done.
-use Rattle.std.proofs.Common.{◌≡◌, ℕ, ◌+◌, ◌-◌, ◌*◌, ◌/◌, ◌%◌, ◌<◌, ◌≤◌, true, false, ◌&&◌, leb, ◌⊎◌, List, [], length, get_or, drop, Some, Ok, Err, Result, sym, refl, ap, ◌∙◌, subst, ⊎_elim, mul_comm, arith}
+use Rattle.std.proofs.Common.{◌≡◌, ℕ, ◌+◌, ◌-◌, ◌*◌, ◌/◌, ◌%◌, ◌<◌, ◌≤◌, true, false, ◌&&◌, leb, ◌⊎◌, List, [], length, get_or, drop, Some, Ok, Result, sym, ap, ◌∙◌, subst, ⊎_elim, mul_comm, arith}
 use Rattle.std.proofs.lemmas.Nat.{mul-add-lt, mod_below, div_below, div-add-mod'}
 use Rattle.std.proofs.lemmas.List.{ext_get_or, get_or-drop, length-drop}
-use Rattle.std.specs.Result.{is_ok}
-use Rattle.std.proofs.lemmas.Bool.{both_ways, and_from, and_left, and_right, le-leb, lt-leb, cond-true, cond-false}
+use Rattle.std.proofs.lemmas.Bool.{and_from, and_left, and_right, le-leb, lt-leb, cond-true, cond-false}
 use Rattle.picture.specs.declared.picture.Picture.{Ghosts}
 use Rattle.pixel.specs.declared.kind.Kind as Kinds
 use Rattle.pixel.specs.Ops.{Ops}
@@ -85,14 +84,6 @@ module _ {K S : Type 0} (o : Ops K S) (b : Image K) (s : TileShape) (rect : Rect
         let short : leb (area rect) (length buf) ≡ false = lt-leb _ _ l in
         let e = halted (and_right (inside b rect) (leb (area rect) (length buf)) short) in
         (sym (cond-true (inside b rect) _ _ in-it ∙ cond-false (leb (area rect) (length buf)) _ _ short), e.0, e.1)
-
-pub ok_of : (r : Result Unit Refusal) → is_ok r ≡ true → r ≡ Ok tt
-ok_of (Ok _) e = refl
-ok_of (Err e) h = absurd (both_ways false refl h)
-
-pub err_of : (r : Result Unit Refusal) → is_ok r ≡ false → (e : Refusal) × (r ≡ Err e)
-err_of (Ok _) h = absurd (both_ways true h refl)
-err_of (Err e) h = (e, refl)
 
 -- the slots with another count of bypasses
 abbrev pub counting : Tiles → ℕ → Tiles
