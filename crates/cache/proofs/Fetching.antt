@@ -4,6 +4,8 @@ use Rattle.std.specs.List.{position}
 use borrow.Rule.Slice.PartMut.{put_mid}
 use Rattle.std.proofs.lemmas.List.{get_or-set_same, length-take-le, length-drop}
 use Rattle.std.proofs.lemmas.Bool.{cond-true, cond-false, cases_lt}
+use Rattle.picture.specs.declared.picture.Picture.{Ghosts}
+use Rattle.pixel.specs.declared.kind.Kind as Kinds
 use Rattle.pixel.specs.Ops.{Ops}
 use Rattle.picture.specs.declared.fault.Refusal.{Refusal}
 use Rattle.picture.specs.declared.rect.Rect.{Rect}
@@ -102,9 +104,9 @@ none_of (Some i) h = absurd (h i refl)
 abbrev pub wrote : Tiles → ℕ → ℕ → List ℕ → Tiles
 wrote t start end ys = holding t (put_mid start (end - start) t.entries ys)
 
-module _ {P K S : Type 0} {g : _} {h : _} (o : Ops K S) (model : P → Model K) (count : P → ℕ) (c : Cache P K S g h) (ready : Ready o (model c.below).shown c.shape c.tiles) (x : Tile) where
+module _ {P K S : Type 0} {g : Ghosts P K S} {h : Kinds.Ghosts K S} (c : Cache P K S g h) (x : Tile) where
   abbrev image : Image K
-  image = (model c.below).shown
+  image = (g.model c.below).shown
 
   abbrev visiting : State → Walk
   visiting st = visited c.shape.slots (whole image c.shape) st x
@@ -115,93 +117,100 @@ module _ {P K S : Type 0} {g : _} {h : _} (o : Ops K S) (model : P → Model K) 
   -- the visit of a tile that is listed
   module _ (i : ℕ) (is : place ≡ Some i) where
     here : Listed c.tiles.held c.tiles.len x i
-    here = listed-hit c.tiles.held c.tiles.len x (room o image c.shape c.tiles ready x) i is
+    here = listed-hit c.tiles.held c.tiles.len x (room h.ops image c.shape c.tiles c.ready x) i is
 
     pub within : i < 17
-    within = omega (arith, here.below, ready.few, c.shape.few)
+    within = omega (arith, here.below, c.ready.few, c.shape.few)
 
-    pub kept_hit : (w : Tiles) → w ≡ again c.tiles i → Kept o image c.shape w
+    pub kept_hit : (w : Tiles) → w ≡ again c.tiles i → Kept h.ops image c.shape w
     kept_hit w e =
         let ts = listed c.tiles.held c.tiles.len in
-        subst (Kept o image c.shape) (sym e) (record {
-          ready = ready_again o image c.shape c.tiles ready i here.below;
+        subst (Kept h.ops image c.shape) (sym e) (record {
+          ready = ready_again h.ops image c.shape c.tiles c.ready i here.below;
           once = subst Once (sym here.moved) (gone ts x c.once, once_without ts x c.once);
         })
 
     pub front_hit : (w : Tiles) → w ≡ again c.tiles i → Front w x
     front_hit w e = subst (λ v. Front v x) (sym e) (record { some = omega (arith, here.below); at = here.at })
 
-    pub went_hit : (d : Cache P K S g h) → d.below ≡ c.below → d.shape ≡ c.shape → d.tiles ≡ again c.tiles i → d.count ≡ c.count → Went model count visiting c (Ok tt) d
+    pub went_hit : (d : Cache P K S g h) → d.below ≡ c.below → d.shape ≡ c.shape → d.tiles ≡ again c.tiles i → d.count ≡ c.count → Went g.model g.count visiting c (Ok tt) d
     went_hit d eb es et ec =
         record {
-          machine = ap (λ p. going (state d.tiles (count p))) eb ∙ ap (λ t. going (state t (count c.below))) et ∙ hit_machine o image c.shape c.tiles ready x i (count c.below) here;
-          keeps = ap model eb;
+          machine = ap (λ p. going (state d.tiles (g.count p))) eb ∙ ap (λ t. going (state t (g.count c.below))) et ∙ hit_machine h.ops image c.shape c.tiles c.ready x i (g.count c.below) here;
+          keeps = ap g.model eb;
           shape = es;
           counted = ec;
         }
 
-  -- the visit of one that is not, for whose rectangle below was prepared
-  module _ (is : place ≡ None) (rect : Rect) (covers : Covers c.shape image.width image.height x rect) (start end : ℕ) (es : start ≡ base (slot_at c.tiles.held c.tiles.len)) (ee : end ≡ start + area rect)
-      (q : P) (r : Result Unit Refusal) (ys : List ℕ) (prep : Prepared o model count c.below rect (take (end - start) (drop start c.tiles.entries)) r q ys) (m : length ys ≡ length (take (end - start) (drop start c.tiles.entries))) where
-    not_listed : lists (listed c.tiles.held c.tiles.len) x ≡ false
-    not_listed = listed_miss c.tiles.held c.tiles.len x (room o image c.shape c.tiles ready x) is
+-- the visit of a tile that is not listed: below was asked for its rectangle, to be put in the spare slot
+pub record Asked {P K S : Type 0} {g : Ghosts P K S} {h : Kinds.Ghosts K S} (c : Cache P K S g h) (x : Tile) (rect : Rect) (start end : ℕ) (q : P) (r : Result Unit Refusal) (ys : List ℕ) : Type 0 where
+  pub absent : place c x ≡ None
+  pub covers : Covers c.shape (image c x).width (image c x).height x rect
+  pub begins : start ≡ base (slot_at c.tiles.held c.tiles.len)
+  pub ends : end ≡ start + area rect
+  pub prep : Prepared h.ops g.model g.count c.below rect (take (end - start) (drop start c.tiles.entries)) r q ys
+  pub long : length ys ≡ length (take (end - start) (drop start c.tiles.entries))
 
-    fits : end ≤ length c.tiles.entries
-    fits = omega (arith, spare o image c.shape c.tiles ready, small_area c.shape image.width image.height x rect covers, ready.room)
+module _ {P K S : Type 0} {g : Ghosts P K S} {h : Kinds.Ghosts K S} {c : Cache P K S g h} {x : Tile} {rect : Rect} {start end : ℕ} {q : P} {r : Result Unit Refusal} {ys : List ℕ} (a : Asked c x rect start end q r ys) where
+  not_listed : lists (listed c.tiles.held c.tiles.len) x ≡ false
+  not_listed = listed_miss c.tiles.held c.tiles.len x (room h.ops (image c x) c.shape c.tiles c.ready x) a.absent
 
-    part_length : length (take (end - start) (drop start c.tiles.entries)) ≡ end - start
-    part_length = length-take-le (end - start) (drop start c.tiles.entries) (omega (arith, length-drop start c.tiles.entries, fits))
+  fits : end ≤ length c.tiles.entries
+  fits = omega (arith, a.begins, a.ends, spare h.ops (image c x) c.shape c.tiles c.ready, small_area c.shape (image c x).width (image c x).height x rect a.covers, c.ready.room)
 
-    small : end - start ≤ 256
-    small = omega (arith, small_area c.shape image.width image.height x rect covers)
+  part_length : length (take (end - start) (drop start c.tiles.entries)) ≡ end - start
+  part_length = length-take-le (end - start) (drop start c.tiles.entries) (omega (arith, length-drop start c.tiles.entries, fits))
 
-    kept_below : (w : Tiles) → Ready o image c.shape w → Once (listed w.held w.len) → Kept o (model q).shown c.shape w
-    kept_below w r h = record { ready = subst (λ (i : Model K). Ready o i.shown c.shape w) (sym prep.keeps) r; once = h }
+  small : end - start ≤ 256
+  small = omega (arith, a.ends, small_area c.shape (image c x).width (image c x).height x rect a.covers)
 
-    written : Ready o image c.shape (wrote c.tiles start end ys)
-    written =
-        subst (λ a. Ready o image c.shape (holding c.tiles (put_mid a (end - start) c.tiles.entries ys))) (sym es) (ready_holding o image c.shape c.tiles ready (end - start) ys (m ∙ part_length) small)
+  kept_below : (w : Tiles) → Ready h.ops (image c x) c.shape w → Once (listed w.held w.len) → Kept h.ops (g.model q).shown c.shape w
+  kept_below w r e = record { ready = subst (λ (i : Model K). Ready h.ops i.shown c.shape w) (sym a.prep.keeps) r; once = e }
 
-    pub kept_err : Kept o (model q).shown c.shape (wrote c.tiles start end ys)
-    kept_err = kept_below (wrote c.tiles start end ys) written c.once
+  written : Ready h.ops (image c x) c.shape (wrote c.tiles start end ys)
+  written =
+      subst (λ n. Ready h.ops (image c x) c.shape (holding c.tiles (put_mid n (end - start) c.tiles.entries ys))) (sym a.begins) (ready_holding h.ops (image c x) c.shape c.tiles c.ready (end - start) ys (a.long ∙ part_length) small)
 
-    -- `a` is what the visit answers
-    pub went_err : (e : Refusal) → r ≡ Err e → (a : Result Unit Refusal) → a ≡ Err e → (d : Cache P K S g h) → d.below ≡ q → d.shape ≡ c.shape → d.tiles ≡ wrote c.tiles start end ys → d.count ≡ c.count
-        → Went model count visiting c a d
-    went_err e is a ea d eb eh et ec =
-        let f = fetched_err o image c.shape c.tiles ready x rect (take (end - start) (drop start c.tiles.entries)) (end - start) covers part_length (omega arith)
-        (number_of e) (values_of e) (ap outcome (sym is) ∙ prep.answers) in
+  pub kept_err : Kept h.ops (g.model q).shown c.shape (wrote c.tiles start end ys)
+  kept_err = kept_below (wrote c.tiles start end ys) written c.once
+
+  -- `b` is what the visit answers
+  pub went_err : (e : Refusal) → r ≡ Err e → (b : Result Unit Refusal) → b ≡ Err e → (d : Cache P K S g h) → d.below ≡ q → d.shape ≡ c.shape → d.tiles ≡ wrote c.tiles start end ys → d.count ≡ c.count
+      → Went g.model g.count (visiting c x) c b d
+  went_err e is b ea d eb eh et ec =
+      let f = fetched_err h.ops (image c x) c.shape c.tiles c.ready x rect (take (end - start) (drop start c.tiles.entries)) (end - start) a.covers part_length (omega (arith, a.ends))
+      (number_of e) (values_of e) (ap outcome (sym is) ∙ a.prep.answers) in
+      record {
+        machine = ap (λ w. walk_of w (state_of g.count d)) ea ∙ ap (λ p. ended (state d.tiles (g.count p))) eb ∙ ap (λ t. ended (state t (g.count q))) et
+            ∙ miss_machine h.ops (image c x) c.shape c.tiles c.ready x _ (g.count c.below) not_listed (refuse_machine h.ops (image c x) c.shape c.tiles c.ready x (wrote c.tiles start end ys).entries (g.count c.below) (g.count q) a.prep.counts f);
+        keeps = ap g.model eb ∙ a.prep.keeps;
+        shape = eh;
+        counted = ec;
+      }
+
+  module _ (ok : r ≡ Ok tt) where
+    full : (whole (image c x) c.shape x ≡ true) × Ready h.ops (image c x) c.shape (admitted c.shape.slots x (wrote c.tiles start end ys))
+    full =
+        let f = fetched_ok h.ops (image c x) c.shape c.tiles c.ready x rect (take (end - start) (drop start c.tiles.entries)) (end - start) a.covers part_length (omega (arith, a.ends)) ys (a.long ∙ part_length)
+        (ap outcome (sym ok) ∙ a.prep.answers) a.prep.fills in
+        (f.0, subst (λ n. Ready h.ops (image c x) c.shape (admitted c.shape.slots x (holding c.tiles (put_mid n (end - start) c.tiles.entries ys)))) (sym a.begins) f.1)
+
+    pub kept_ok : (w : Tiles) → w ≡ admitted c.shape.slots x (wrote c.tiles start end ys) → Kept h.ops (g.model q).shown c.shape w
+    kept_ok w e =
+        let t = wrote c.tiles start end ys in
+        let ts = listed c.tiles.held c.tiles.len in
+        subst (Kept h.ops (g.model q).shown c.shape) (sym e) (kept_below (admitted c.shape.slots x t) full.1
+        (subst Once (sym (fetch_list h.ops (image c x) c.shape c.tiles c.ready x t.entries)) (once_take c.shape.slots (x ∷ ts) (not_listed, c.once))))
+
+    pub went_ok : (d : Cache P K S g h) → d.below ≡ q → d.shape ≡ c.shape → d.tiles ≡ admitted c.shape.slots x (wrote c.tiles start end ys) → d.count ≡ c.count → Went g.model g.count (visiting c x) c (Ok tt) d
+    went_ok d eb eh et ec =
         record {
-          machine = ap (λ w. walk_of w (state_of count d)) ea ∙ ap (λ p. ended (state d.tiles (count p))) eb ∙ ap (λ t. ended (state t (count q))) et
-              ∙ miss_machine o image c.shape c.tiles ready x _ (count c.below) not_listed (refuse_machine o image c.shape c.tiles ready x (wrote c.tiles start end ys).entries (count c.below) (count q) prep.counts f);
-          keeps = ap model eb ∙ prep.keeps;
+          machine = ap (λ p. going (state d.tiles (g.count p))) eb ∙ ap (λ t. going (state t (g.count q))) et
+              ∙ miss_machine h.ops (image c x) c.shape c.tiles c.ready x _ (g.count c.below) not_listed (fetch_machine h.ops (image c x) c.shape c.tiles c.ready x (wrote c.tiles start end ys).entries (g.count c.below) (g.count q) a.prep.counts full.0);
+          keeps = ap g.model eb ∙ a.prep.keeps;
           shape = eh;
           counted = ec;
         }
 
-    module _ (ok : r ≡ Ok tt) where
-      full : (whole image c.shape x ≡ true) × Ready o image c.shape (admitted c.shape.slots x (wrote c.tiles start end ys))
-      full =
-          let f = fetched_ok o image c.shape c.tiles ready x rect (take (end - start) (drop start c.tiles.entries)) (end - start) covers part_length (omega arith) ys (m ∙ part_length)
-          (ap outcome (sym ok) ∙ prep.answers) prep.fills in
-          (f.0, subst (λ a. Ready o image c.shape (admitted c.shape.slots x (holding c.tiles (put_mid a (end - start) c.tiles.entries ys)))) (sym es) f.1)
-
-      pub kept_ok : (w : Tiles) → w ≡ admitted c.shape.slots x (wrote c.tiles start end ys) → Kept o (model q).shown c.shape w
-      kept_ok w e =
-          let t = wrote c.tiles start end ys in
-          let ts = listed c.tiles.held c.tiles.len in
-          subst (Kept o (model q).shown c.shape) (sym e) (kept_below (admitted c.shape.slots x t) full.1
-          (subst Once (sym (fetch_list o image c.shape c.tiles ready x t.entries)) (once_take c.shape.slots (x ∷ ts) (not_listed, c.once))))
-
-      pub went_ok : (d : Cache P K S g h) → d.below ≡ q → d.shape ≡ c.shape → d.tiles ≡ admitted c.shape.slots x (wrote c.tiles start end ys) → d.count ≡ c.count → Went model count visiting c (Ok tt) d
-      went_ok d eb eh et ec =
-          record {
-            machine = ap (λ p. going (state d.tiles (count p))) eb ∙ ap (λ t. going (state t (count q))) et
-                ∙ miss_machine o image c.shape c.tiles ready x _ (count c.below) not_listed (fetch_machine o image c.shape c.tiles ready x (wrote c.tiles start end ys).entries (count c.below) (count q) prep.counts full.0);
-            keeps = ap model eb ∙ prep.keeps;
-            shape = eh;
-            counted = ec;
-          }
-
-      pub front_ok : (w : Tiles) → w ≡ admitted c.shape.slots x (wrote c.tiles start end ys) → Front w x
-      front_ok w e = front_admitted o image c.shape c.tiles ready x (wrote c.tiles start end ys).entries w e
+    pub front_ok : (w : Tiles) → w ≡ admitted c.shape.slots x (wrote c.tiles start end ys) → Front w x
+    front_ok w e = front_admitted h.ops (image c x) c.shape c.tiles c.ready x (wrote c.tiles start end ys).entries w e

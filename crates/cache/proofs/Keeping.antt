@@ -59,9 +59,8 @@ pub small_area : (s : TileShape) (W H : ℕ) (x : Tile) (rect : Rect) → Covers
 small_area s W H x rect covers = omega (arith, mul-le rect.width rect.height s.width s.height (omega (arith, covers.width)) (omega (arith, covers.height)), s.small)
 
 -- what the type of a cache says of its slots
-pub record Kept {K S : Type 0} (o : Ops K S) (b : Image K) (s : TileShape) (t : Tiles) : Type 0 where
-  pub ready : Ready o b s t
-  pub once : Once (listed t.held t.len)
+abbrev pub Kept : {K S : Type 0} → Ops K S → Image K → TileShape → Tiles → Type 0
+Kept o b s t = record { ready : Ready o b s t; once : Once (listed t.held t.len) }
 
 module _ {K S : Type 0} (o : Ops K S) (b : Image K) (s : TileShape) where
   -- a place of a tile has its entry inside the tile's slot

@@ -1,9 +1,10 @@
 -- A prepare by tiles: what it answers, and what the machine has done.
-use Rattle.std.proofs.Common.{◌≡◌, ℕ, ◌+◌, ◌-◌, ◌*◌, ◌/◌, ◌%◌, ◌<◌, ◌≤◌, true, false, ◌&&◌, leb, ◌⊎◌, List, [], length, get_or, drop, Some, Ok, Err, Result, sym, refl, ap, ◌∙◌, subst, ⊎_elim, mul_comm, arith}
+use Rattle.std.proofs.Common.{◌≡◌, ℕ, ◌+◌, ◌-◌, ◌*◌, ◌/◌, ◌%◌, ◌<◌, ◌≤◌, true, false, ◌&&◌, leb, ◌⊎◌, List, [], length, get_or, drop, Some, Ok, Result, sym, ap, ◌∙◌, subst, ⊎_elim, mul_comm, arith}
 use Rattle.std.proofs.lemmas.Nat.{mul-add-lt, mod_below, div_below, div-add-mod'}
 use Rattle.std.proofs.lemmas.List.{ext_get_or, get_or-drop, length-drop}
-use Rattle.std.specs.Result.{is_ok}
-use Rattle.std.proofs.lemmas.Bool.{both_ways, and_from, and_left, and_right, le-leb, lt-leb, cond-true, cond-false}
+use Rattle.std.proofs.lemmas.Bool.{and_from, and_left, and_right, le-leb, lt-leb, cond-true, cond-false}
+use Rattle.picture.specs.declared.picture.Picture.{Ghosts}
+use Rattle.pixel.specs.declared.kind.Kind as Kinds
 use Rattle.pixel.specs.Ops.{Ops}
 use Rattle.picture.specs.declared.fault.Refusal.{Refusal}
 use Rattle.picture.specs.declared.rect.Rect.{Rect}
@@ -14,18 +15,18 @@ use Rattle.picture.specs.Region.{Within}
 use Rattle.cache.specs.declared.cache.Cache.{Cache}
 use Rattle.cache.specs.declared.shape.TileShape.{TileShape}
 use Rattle.cache.specs.declared.tiles.Tiles.{Tiles}
-use Rattle.cache.specs.Machine.{State, Walk, going, ended, settled, Accounts, Once}
+use Rattle.cache.specs.Machine.{State, Walk, going, ended, settled, Accounts}
 use Rattle.cache.specs.Order.{none}
 use Rattle.cache.specs.Grid.{across, down}
 use Rattle.cache.specs.Boxes.{spot, Beyond}
-use Rattle.cache.specs.Slots.{state, Ready}
+use Rattle.cache.specs.Slots.{state}
 use Rattle.cache.specs.Walks.{over_tiles, Served}
 use Rattle.cache.specs.Caching.{prepared, state_of, model_of, Worked}
 use Rattle.cache.proofs.Listing.{length-listed}
 use Rattle.cache.proofs.Keeping.{long}
 use Rattle.cache.proofs.Pixels.{serves, filled-over}
 use Rattle.cache.proofs.Walking.{span_of}
-use Rattle.cache.proofs.Accounting.{once_prepared, few_prepared, accounts_prepared, quiet_prepared}
+use Rattle.cache.proofs.Accounting.{accounts_prepared, quiet_prepared}
 
 beyond_drop : (rect : Rect) (was to : List ℕ) → length to ≡ length was → Beyond rect was to → drop (area rect) to ≡ drop (area rect) was
 beyond_drop rect was to len h =
@@ -84,72 +85,62 @@ module _ {K S : Type 0} (o : Ops K S) (b : Image K) (s : TileShape) (rect : Rect
         let e = halted (and_right (inside b rect) (leb (area rect) (length buf)) short) in
         (sym (cond-true (inside b rect) _ _ in-it ∙ cond-false (leb (area rect) (length buf)) _ _ short), e.0, e.1)
 
-pub ok_of : (r : Result Unit Refusal) → is_ok r ≡ true → r ≡ Ok tt
-ok_of (Ok _) e = refl
-ok_of (Err e) h = absurd (both_ways false refl h)
-
-pub err_of : (r : Result Unit Refusal) → is_ok r ≡ false → (e : Refusal) × (r ≡ Err e)
-err_of (Ok _) h = absurd (both_ways true h refl)
-err_of (Err e) h = (e, refl)
-
 -- the slots with another count of bypasses
 abbrev pub counting : Tiles → ℕ → Tiles
 counting t n = record { held = t.held; len = t.len; entries = t.entries; counts = record { hits = t.counts.hits; fetches = t.counts.fetches; bypasses = n } }
 
-module _ {P K S : Type 0} {g : _} {h : _} (o : Ops K S) (model : P → Model K) (count : P → ℕ) (c : Cache P K S g h) (ready : Ready o (model c.below).shown c.shape c.tiles) where
+module _ {P K S : Type 0} {g : Ghosts P K S} {h : Kinds.Ghosts K S} (c : Cache P K S g h) where
   abbrev image : Image K
-  image = (model c.below).shown
+  image = (g.model c.below).shown
 
   -- the laws of the machine, for a cache that does what the machine does
-  worked : (d : Cache P K S g h) (r : Rect) (n : ℕ) → d.shape ≡ c.shape → state_of count d ≡ prepared image c.shape r n (state_of count c)
-      → Worked model count c r n d
+  worked : (d : Cache P K S g h) (r : Rect) (n : ℕ) → d.shape ≡ c.shape → state_of g.count d ≡ prepared image c.shape r n (state_of g.count c)
+      → Worked g.model g.count c r n d
   worked d r n shape e =
-      let st = state_of count c in
-      let t = c.tiles in
-      let few : length st.tiles ≤ c.shape.slots = omega (arith, length-listed t.held t.len none.tile (omega (arith, long o image c.shape t ready)), ready.few) in
+      let st = state_of g.count c in
       record {
         shape = shape;
         machine = e;
-        once = subst (λ (v : State). Once v.tiles) (sym e) (once_prepared image c.shape r n st c.once);
-        few = subst (λ (v : State). length v.tiles ≤ c.shape.slots) (sym e) (few_prepared image c.shape r n st few);
+        once = d.once;
+        few = omega (arith, length-listed d.tiles.held d.tiles.len none.tile (omega (arith, long _ _ d.shape d.tiles d.ready)), d.ready.few, ap (λ (s : TileShape). s.slots) shape);
         accounts = subst (Accounts st) (sym e) (accounts_prepared image c.shape r n st);
         held = λ all. ap (λ (v : State). v.asked) e ∙ quiet_prepared image c.shape r n st all;
       }
 
   abbrev Both : Rect → List ℕ → Cache P K S g h → Result Unit Refusal → List ℕ → Type 0
-  Both r buf d a after = record { prepared : Prepared o (model_of model) (λ v. v.count) c r buf a d after; worked : Worked model count c r (length buf) d }
+  Both r buf d a after = record { prepared : Prepared h.ops (model_of g.model) (λ v. v.count) c r buf a d after; worked : Worked g.model g.count c r (length buf) d }
 
   -- refused with 10 or 11
-  pub refused_so : (r : Rect) (buf : List ℕ) (d : Cache P K S g h) → d.count ≡ up c.count → d.shape ≡ c.shape → model d.below ≡ model c.below → state_of count d ≡ state_of count c
-      → (a : Result Unit Refusal) → (outcome a ≡ answer image r (length buf)) × (buf ≡ filled o image r buf) × ((st : State) → st ≡ prepared image c.shape r (length buf) st)
+  pub refused_so : (r : Rect) (buf : List ℕ) (d : Cache P K S g h) → d.count ≡ up c.count → d.shape ≡ c.shape → g.model d.below ≡ g.model c.below → state_of g.count d ≡ state_of g.count c
+      → (a : Result Unit Refusal) → (outcome a ≡ answer image r (length buf)) × (buf ≡ filled h.ops image r buf) × ((st : State) → st ≡ prepared image c.shape r (length buf) st)
       → Both r buf d a buf
   refused_so r buf d counted shape keeps same a f =
       record {
         prepared = record { answers = f.0; fills = f.1; counts = counted; keeps = keeps };
-        worked = worked d r (length buf) shape (same ∙ f.2 (state_of count c));
+        worked = worked d r (length buf) shape (same ∙ f.2 (state_of g.count c));
       }
 
   module _ (r : Rect) (buf : List ℕ) (x : r.left + r.width ≤ image.width) (y : r.top + r.height ≤ image.height) (z : area r ≤ length buf) (to : List ℕ) (len : length to ≡ length buf) (beyond : Beyond r buf to) where
     -- served by tiles
-    pub served_so : (d : Cache P K S g h) → d.count ≡ up c.count → d.shape ≡ c.shape → model d.below ≡ model c.below → going (state_of count d) ≡ over_tiles image c.shape r (state_of count c)
-        → Served o image c.shape r to (across c.shape r * down c.shape r) → Both r buf d (Ok tt) to
+    pub served_so : (d : Cache P K S g h) → d.count ≡ up c.count → d.shape ≡ c.shape → g.model d.below ≡ g.model c.below → going (state_of g.count d) ≡ over_tiles image c.shape r (state_of g.count c)
+        → Served h.ops image c.shape r to (across c.shape r * down c.shape r) → Both r buf d (Ok tt) to
     served_so d counted shape keeps e served =
-        let f = by_tiles o image c.shape r buf x y z to len beyond served in
+        let f = by_tiles h.ops image c.shape r buf x y z to len beyond served in
         record {
           prepared = record { answers = f.0; fills = f.1; counts = counted; keeps = keeps };
-          worked = worked d r (length buf) shape (machine o image c.shape r buf x y z (going (state_of count d)) (state_of count c) e);
+          worked = worked d r (length buf) shape (machine h.ops image c.shape r buf x y z (going (state_of g.count d)) (state_of g.count c) e);
         }
 
     -- passed on below, by a cache that has walked
-    pub passed_so : (d e : Cache P K S g h) → d.count ≡ up c.count → d.shape ≡ c.shape → model e.below ≡ model c.below → ended (state_of count e) ≡ over_tiles image c.shape r (state_of count c)
-        → d.tiles ≡ counting e.tiles (up e.tiles.counts.bypasses) → (a : Result Unit Refusal) (after : List ℕ) → Prepared o model count e.below r to a d.below after → Both r buf d a after
+    pub passed_so : (d e : Cache P K S g h) → d.count ≡ up c.count → d.shape ≡ c.shape → g.model e.below ≡ g.model c.below → ended (state_of g.count e) ≡ over_tiles image c.shape r (state_of g.count c)
+        → d.tiles ≡ counting e.tiles (up e.tiles.counts.bypasses) → (a : Result Unit Refusal) (after : List ℕ) → Prepared h.ops g.model g.count e.below r to a d.below after → Both r buf d a after
     passed_so d e counted shape keeps ends tiles a after prep =
-        let st = ap (λ t. state t (count d.below)) tiles ∙ ap (λ n. state (counting e.tiles (up e.tiles.counts.bypasses)) n) prep.counts
-        ∙ machine o image c.shape r buf x y z (ended (state_of count e)) (state_of count c) ends in
+        let st = ap (λ t. state t (g.count d.below)) tiles ∙ ap (λ n. state (counting e.tiles (up e.tiles.counts.bypasses)) n) prep.counts
+        ∙ machine h.ops image c.shape r buf x y z (ended (state_of g.count e)) (state_of g.count c) ends in
         record {
           prepared = record {
             answers = prep.answers ∙ ap (λ (i : Model K). answer i.shown r (length to)) keeps ∙ ap (answer image r) len;
-            fills = prep.fills ∙ ap (λ (i : Model K). filled o i.shown r to) keeps ∙ by_below o image c.shape r buf x y z to len beyond;
+            fills = prep.fills ∙ ap (λ (i : Model K). filled h.ops i.shown r to) keeps ∙ by_below h.ops image c.shape r buf x y z to len beyond;
             counts = counted;
             keeps = prep.keeps ∙ keeps;
           };

@@ -1,9 +1,11 @@
 -- The walk over the tiles that a rectangle touches.
-use Rattle.std.proofs.Common.{◌≡◌, ℕ, zero, suc, ◌+◌, ◌-◌, ◌*◌, ◌/◌, ◌%◌, ◌<◌, ◌≤◌, Bool, List, get_or, drop, Some, Ok, Err, Result, sym, refl, ap, ◌∙◌, subst, ⊎_elim, add-zero, add-suc, mul-le-mul_right, mul_comm, mul-one, one-mul, mul-add, add-mul, div-mul-le_self, add-one, arith}
+use Rattle.std.proofs.Common.{◌≡◌, ℕ, zero, suc, ◌+◌, ◌-◌, ◌*◌, ◌/◌, ◌%◌, ◌<◌, ◌≤◌, Bool, List, get_or, drop, Some, Ok, Err, Result, sym, ap, ◌∙◌, subst, ⊎_elim, add-zero, add-suc, mul-le-mul_right, mul_comm, mul-one, one-mul, mul-add, add-mul, div-mul-le_self, add-one, arith}
 use native.Mathlib.Nat.{lt-mul-div-succ}
 use Rattle.std.proofs.lemmas.Nat.{div-mul-add, mod-mul-add, mul-add-lt, le-div}
 use Rattle.std.proofs.lemmas.List.{get_or-drop}
 use Rattle.std.proofs.lemmas.Bool.{cases_eq}
+use Rattle.picture.specs.declared.picture.Picture.{Ghosts}
+use Rattle.pixel.specs.declared.kind.Kind as Kinds
 use Rattle.pixel.specs.Ops.{Ops}
 use Rattle.picture.specs.declared.rect.Rect.{Rect}
 use Rattle.picture.specs.Images.{Image, Model}
@@ -74,30 +76,30 @@ module _ (slots : ℕ) (whole : Tile → Bool) (f : ℕ → Tile) (s : State) wh
       ap (λ k. walked slots whole f k s) (sym q) ∙ walk_stays n (m - n) st e
 
 -- the walk of a cache c, which has become d and then e
-module _ {P K S : Type 0} {g : _} {h : _} (model : P → Model K) (count : P → ℕ) (f : ℕ → Tile) (c : Cache P K S g h) where
+module _ {P K S : Type 0} {g : Ghosts P K S} {h : Kinds.Ghosts K S} (f : ℕ → Tile) (c : Cache P K S g h) where
   abbrev pub sofar : ℕ → State → Walk
-  sofar k = walked c.shape.slots (whole (model c.below).shown c.shape) f k
+  sofar k = walked c.shape.slots (whole (g.model c.below).shown c.shape) f k
 
-  pub went_more : (d e : Cache P K S g h) (k : ℕ) (x : Tile) (r : Result Unit Refusal) → x ≡ f k → Went model count (sofar k) c (Ok tt) d
-      → Went model count (λ st. visited d.shape.slots (whole (model d.below).shown d.shape) st x) d r e → Went model count (sofar (k + 1)) c r e
+  pub went_more : (d e : Cache P K S g h) (k : ℕ) (x : Tile) (r : Result Unit Refusal) → x ≡ f k → Went g.model g.count (sofar k) c (Ok tt) d
+      → Went g.model g.count (λ st. visited d.shape.slots (whole (g.model d.below).shown d.shape) st x) d r e → Went g.model g.count (sofar (k + 1)) c r e
   went_more d e k x r is a h =
-      let b = (model c.below).shown in
-      let st = state_of count d in
-      let m : walk_of r (state_of count e) ≡ visited c.shape.slots (whole b c.shape) st (f k) =
-      h.machine ∙ ap (λ (s : TileShape). visited s.slots (whole (model d.below).shown s) st x) a.shape
+      let b = (g.model c.below).shown in
+      let st = state_of g.count d in
+      let m : walk_of r (state_of g.count e) ≡ visited c.shape.slots (whole b c.shape) st (f k) =
+      h.machine ∙ ap (λ (s : TileShape). visited s.slots (whole (g.model d.below).shown s) st x) a.shape
       ∙ ap (λ (n : Model K). visited c.shape.slots (whole n.shown c.shape) st x) a.keeps ∙ ap (visited c.shape.slots (whole b c.shape) st) is in
       record {
-        machine = sym (walk_more c.shape.slots (whole b c.shape) f (state_of count c) k st (walk_of r (state_of count e)) (sym a.machine) m);
+        machine = sym (walk_more c.shape.slots (whole b c.shape) f (state_of g.count c) k st (walk_of r (state_of g.count e)) (sym a.machine) m);
         keeps = h.keeps ∙ a.keeps;
         shape = h.shape ∙ a.shape;
         counted = h.counted ∙ a.counted;
       }
 
-  pub went_ended : (e : Cache P K S g h) (k n : ℕ) (r a : Result Unit Refusal) (z : Refusal) → r ≡ Err z → a ≡ Err z → k ≤ n → Went model count (sofar k) c r e → Went model count (sofar n) c a e
+  pub went_ended : (e : Cache P K S g h) (k n : ℕ) (r a : Result Unit Refusal) (z : Refusal) → r ≡ Err z → a ≡ Err z → k ≤ n → Went g.model g.count (sofar k) c r e → Went g.model g.count (sofar n) c a e
   went_ended e k n r a z er ea le h =
-      let m : ended (state_of count e) ≡ sofar k (state_of count c) = ap (λ w. walk_of w (state_of count e)) (sym er) ∙ h.machine in
+      let m : ended (state_of g.count e) ≡ sofar k (state_of g.count c) = ap (λ w. walk_of w (state_of g.count e)) (sym er) ∙ h.machine in
       record {
-        machine = ap (λ w. walk_of w (state_of count e)) ea ∙ sym (walk_ends c.shape.slots (whole (model c.below).shown c.shape) f (state_of count c) k n (state_of count e) le (sym m));
+        machine = ap (λ w. walk_of w (state_of g.count e)) ea ∙ sym (walk_ends c.shape.slots (whole (g.model c.below).shown c.shape) f (state_of g.count c) k n (state_of g.count e) le (sym m));
         keeps = h.keeps;
         shape = h.shape;
         counted = h.counted;
@@ -203,33 +205,23 @@ all_done s rect row e =
     omega (arith, ap (λ n. n * across s rect) f, mul_comm (down s rect) (across s rect))
 
 -- the walk of a cache c, which has become d behind the first n tiles, where `to` holds what they gave
-module _ {P K S : Type 0} {g : _} {h : _} (o : Ops K S) (model : P → Model K) (count : P → ℕ) (rect : Rect) (c : Cache P K S g h) (was : List ℕ) where
+module _ {P K S : Type 0} {g : Ghosts P K S} {h : Kinds.Ghosts K S} (rect : Rect) (c : Cache P K S g h) (was : List ℕ) where
   pub record Sofar (n : ℕ) (d : Cache P K S g h) (to : List ℕ) : Type 0 where
-    pub went : Went model count (sofar model count (touched c.shape rect) c n) c (Ok tt) d
-    pub served : Served o (model c.below).shown c.shape rect to n
+    pub went : Went g.model g.count (sofar (touched c.shape rect) c n) c (Ok tt) d
+    pub served : Served h.ops (g.model c.below).shown c.shape rect to n
     pub rest : Beyond rect was to
 
-  pub begun : Sofar 0 c was
-  begun = record { went = record { machine = refl; keeps = refl; shape = refl; counted = refl }; served = λ x y w lt. absurd (omega arith); rest = λ k le. refl }
-
-  -- below has the size that it had, whatever tiles were visited
-  pub covers_now : (d : Cache P K S g h) (W H : ℕ) (x : Tile) (cell : Rect) → d.shape ≡ c.shape → model d.below ≡ model c.below → W ≡ (model c.below).shown.width → H ≡ (model c.below).shown.height
-      → Covers c.shape W H x cell → Covers d.shape (model d.below).shown.width (model d.below).shown.height x cell
-  covers_now d W H x cell es em ew eh h =
-      subst (λ (s : TileShape). Covers s (model d.below).shown.width (model d.below).shown.height x cell) (sym es)
-      (covers_in c.shape W H _ _ x cell (ew ∙ ap (λ (m : Model K). m.shown.width) (sym em)) (eh ∙ ap (λ (m : Model K). m.shown.height) (sym em)) h)
-
-  module _ (in-x : rect.left + rect.width ≤ (model c.below).shown.width) (in-y : rect.top + rect.height ≤ (model c.below).shown.height) where
+  module _ (in-x : rect.left + rect.width ≤ (g.model c.below).shown.width) (in-y : rect.top + rect.height ≤ (g.model c.below).shown.height) where
     -- one more tile
     pub further : (n m : ℕ) → m ≡ n + 1 → (d e : Cache P K S g h) (x : Tile) (cell : Rect) (to part after : List ℕ) → Sofar n d to → x ≡ touched c.shape rect n
-        → Went model count (λ st. visited d.shape.slots (whole (model d.below).shown d.shape) st x) d (Ok tt) e → Ready o (model e.below).shown e.shape e.tiles → Front e.tiles x
-        → Covers c.shape (model c.below).shown.width (model c.below).shown.height x cell → part ≡ drop (base (slot_at e.tiles.held 0)) e.tiles.entries → Overlaid part cell rect to after → Sofar m e after
-    further n m em d e x cell to part after sofar is went ready front covers ep over =
-        let w = went_more model count (touched c.shape rect) c d e n x (Ok tt) is sofar.went went in
-        let r : Ready o (model c.below).shown c.shape e.tiles =
-        subst (λ (s : TileShape). Ready o (model c.below).shown s e.tiles) w.shape (subst (λ (m : Model K). Ready o m.shown e.shape e.tiles) w.keeps ready) in
+        → Went g.model g.count (λ st. visited d.shape.slots (whole (g.model d.below).shown d.shape) st x) d (Ok tt) e → Front e.tiles x
+        → Covers c.shape (g.model c.below).shown.width (g.model c.below).shown.height x cell → part ≡ drop (base (slot_at e.tiles.held 0)) e.tiles.entries → Overlaid part cell rect to after → Sofar m e after
+    further n m em d e x cell to part after sofar is went front covers ep over =
+        let w = went_more (touched c.shape rect) c d e n x (Ok tt) is sofar.went went in
+        let r : Ready h.ops (g.model c.below).shown c.shape e.tiles =
+        subst (λ (s : TileShape). Ready h.ops (g.model c.below).shown s e.tiles) w.shape (subst (λ (m : Model K). Ready h.ops m.shown e.shape e.tiles) w.keeps e.ready) in
         subst (λ k. Sofar k e after) (sym em) (record {
           went = w;
-          served = served_more o (model c.below).shown c.shape rect in-x in-y e.tiles n x cell to after r is front covers (subst (λ l. Overlaid l cell rect to after) ep over) sofar.served;
+          served = served_more h.ops (g.model c.below).shown c.shape rect in-x in-y e.tiles n x cell to after r is front covers (subst (λ l. Overlaid l cell rect to after) ep over) sofar.served;
           rest = λ k le. over.rest k le ∙ sofar.rest k le;
         })

@@ -71,12 +71,14 @@ impl<P: Picture> Picture for Cache<P> {
         if rect.area() > buffer.len() {
             return Err(Refusal::BufferTooShort);
         }
-        if self.walk(size, rect, buffer).is_ok() {
-            return Ok(());
+        match self.walk(size, rect, buffer) {
+            Ok(()) => Ok(()),
+            Err(_) => {
+                let bypasses = &mut self.tiles.counts.bypasses;
+                *bypasses = bypasses.saturating_add(1);
+                self.below.prepare(rect, buffer)
+            }
         }
-        let bypasses = &mut self.tiles.counts.bypasses;
-        *bypasses = bypasses.saturating_add(1);
-        self.below.prepare(rect, buffer)
     }
 
     fn count(&self) -> u64 {

@@ -74,8 +74,7 @@ impl Tiles {
         ensures { self.new ≡ admitted slots tile self.old }
     {
         let len = self.len;
-        let slot = self.held[len].slot;
-        self.held[len] = Held { tile, slot };
+        self.held[len].tile = tile;
         promote(&mut self.held, len);
         self.len = slots.min(len + 1);
         self.counts.fetches = self.counts.fetches.saturating_add(1);
