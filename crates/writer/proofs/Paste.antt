@@ -50,7 +50,7 @@ pub take-over : (bs s : List ℕ) (n : ℕ) → n ≡ length bs → take n (over
 take-over bs s n e = take_at bs (drop (length bs) s) n (sym e)
 
 -- a write at the start of what lies behind a place
-pub put-behind : (out : List ℕ) (a : ℕ) (bytes part : List ℕ) → a ≤ length out → part ≡ over bytes (take (length out - a) (drop a out)) → put_mid a (length out - a) out part ≡ pasted out a bytes
+put-behind : (out : List ℕ) (a : ℕ) (bytes part : List ℕ) → a ≤ length out → part ≡ over bytes (take (length out - a) (drop a out)) → put_mid a (length out - a) out part ≡ pasted out a bytes
 unfolding pasted
 put-behind out a bytes part h e =
     let l = length-drop a out in
@@ -59,6 +59,9 @@ put-behind out a bytes part h e =
     ap (λ x. take a out ++ (x ++ post_of a (length out - a) out)) (e ∙ ap (over bytes) t ∙ ap (λ x. bytes ++ x) (drop-drop (length bytes) a out))
     ∙ ap (λ x. take a out ++ ((bytes ++ drop (a + length bytes) out) ++ x)) (drop-drop (length out - a) a out ∙ ap (λ n. drop n out) z ∙ drop_all (length out) out (omega arith))
     ∙ ap (λ x. take a out ++ x) (append-nil (bytes ++ drop (a + length bytes) out))
+
+pub length-over : (bs s : List ℕ) → length bs ≤ length s → length (over bs s) ≡ length s
+length-over bs s h = ap length (sym (pasted_front s bs)) ∙ length-pasted s 0 bs (omega arith)
 
 -- one byte at the start
 pub over_one : (s : List ℕ) (x : ℕ) → 0 < length s → set s 0 x ≡ over (x ∷ []) s

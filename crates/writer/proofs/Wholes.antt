@@ -1,5 +1,5 @@
 -- One strip after another up to the last row.
-use Rattle.std.proofs.Common.{◌≡◌, ℕ, ◌+◌, ◌-◌, ◌*◌, ◌<◌, ◌≤◌, min, true, false, ◌&&◌, eqb, leb, ◌⊎◌, List, [], ◌++◌, length, take, drop, Some, None, Ok, Err, Option, Result, sym, refl, ap, ◌∙◌, subst, inl, inr, mul-le-mul_right, add-mul, zero-add, mul-add, arith}
+use Rattle.std.proofs.Common.{◌≡◌, ℕ, ◌+◌, ◌-◌, ◌*◌, ◌<◌, ◌≤◌, min, true, false, ◌&&◌, eqb, leb, ◌⊎◌, List, [], ◌++◌, length, take, drop, Some, None, Ok, Err, Option, Result, sym, refl, ap, ◌∙◌, subst, inl, inr, mul-le-mul_right, add-mul, zero-add, mul-add, arith, length-append}
 use borrow.Rule.Slice.PartMut.{put_mid}
 use Rattle.std.proofs.lemmas.Nat.{mul-le}
 use Rattle.std.proofs.lemmas.Bool.{and_from, and_left, and_right, cond-true, cond-false, eq-eqb, ne_eqb, le-leb, lt-leb}
@@ -13,12 +13,14 @@ use Rattle.picture.proofs.Faults.{first_append, first_same, first_stays}
 use Rattle.writer.specs.declared.row_writer.RowWriter.{RowWriter}
 use Rattle.writer.specs.File.{place_of, pixel_width, reading, header_of, raster, file}
 use Rattle.writer.specs.Whole.{file_width, file_end, Left, Filed}
-use Rattle.writer.specs.Layout.{pasted}
 use Rattle.writer.specs.Calls.{End, early, wrote, ending, outcome_of, amount, end_outcome, end_amount, end_bytes, over, rows_of, places_of, ahead, fits, strip_end, strip_bytes, Strip}
-use Rattle.writer.proofs.Paste.{pasted-next, pasted_front, length-pasted, put-behind}
+use Rattle.writer.proofs.Paste.{over_next, length-over}
 use Rattle.writer.proofs.Codes.{reading_long}
 use Rattle.writer.proofs.Nexts.{as_wide, as_high, as_bright, ahead_in, end_open}
 use Rattle.writer.proofs.Logs.{reading_join}
+
+pub not_done : (e : Refusal) → told e ≡ done → ⊥
+not_done e h = let z : ◌≡◌ {A = ℕ} 0 1 = cc in omega arith
 
 no_hole : (x : Option Fault) → done ≡ end_outcome (ending None x) → x ≡ None
 no_hole None e = refl
@@ -50,16 +52,16 @@ module _ {K S : Type 0} (o : Ops K S) where
       let D : Image K → Type 0 = λ z. Turn z v s (length work) part a v' part' in
       subst D e (record { answers = x.part.answers; amounts = x.part.amounts; writes = x.part.writes; next = x.next })
 
-  -- the writer has come so far, behind a header of so many bytes
-  pub record Far (i : Image K) (v : RowWriter) (head end : ℕ) (first out : List ℕ) : Type 0 where
+  -- the writer has come so far
+  pub record Far (i : Image K) (v : RowWriter) (end : ℕ) (first out : List ℕ) : Type 0 where
     pub fit : fits o i v ≡ true
-    pub room : head + i.width * i.height * pixel_width o i.maxval ≤ length out
+    pub room : i.width * i.height * pixel_width o i.maxval ≤ length out
     pub long : length out ≡ length first
-    pub ends : end ≡ head + i.width * v.next * pixel_width o i.maxval
-    pub bytes : out ≡ pasted first head (reading o i 0 (i.width * v.next))
+    pub ends : end ≡ i.width * v.next * pixel_width o i.maxval
+    pub bytes : out ≡ over (reading o i 0 (i.width * v.next)) first
     pub clean : first_fault (place_of i) (i.width * v.next) ≡ None
 
-  module _ (i : Image K) (v : RowWriter) (head end : ℕ) (first out : List ℕ) (far : Far i v head end first out) where
+  module _ (i : Image K) (v : RowWriter) (end : ℕ) (first out : List ℕ) (far : Far i v end first out) where
     -- the bytes of the next strip fit
     next_room : (s : ℕ) → end + places_of v s * pixel_width o i.maxval ≤ length out
     next_room s =
@@ -102,7 +104,7 @@ module _ {K S : Type 0} (o : Ops K S) where
 
       -- a strip that was answered went on
       pub turn_wrote : (deep : (p : K) → length (o.samples p) ≡ o.depth) (n : ℕ) (v' : RowWriter) (part' : List ℕ) → Turn i v s lw part (Ok n) v' part' → part ≡ take (length out - end) (drop end out) → v'.size ≡ v.size → v'.mark ≡ v.mark
-          → (v'.next ≡ v.next + rows_of v s) × Far i v' head (end + n) first (put_mid end (length out - end) out part')
+          → (v'.next ≡ v.next + rows_of v s) × Far i v' (end + n) first (put_mid end (length out - end) out part')
       turn_wrote deep n v' part' t pe es ek =
           let w : ℕ = pixel_width o i.maxval in
           let W = as_wide o i v far.fit in
@@ -113,23 +115,24 @@ module _ {K S : Type 0} (o : Ops K S) where
           let bytes : strip_bytes o i v s ≡ reading o i (i.width * v.next) (i.width * rows_of v s) = ap (λ k. reading o i (k * v.next) (k * rows_of v s)) W in
           let pl : places_of v s ≡ i.width * rows_of v s = ap (λ k. k * rows_of v s) W in
           let mv : i.width * v'.next ≡ i.width * v.next + i.width * rows_of v s = ap (λ k. i.width * k) nx ∙ mul-add i.width v.next (rows_of v s) in
-          let put : put_mid end (length out - end) out part' ≡ pasted out end (strip_bytes o i v s) =
-          put-behind out end (strip_bytes o i v s) part' end_in (t.writes ∙ ap (λ e. end_bytes e (strip_bytes o i v s) part) is ∙ ap (over (strip_bytes o i v s)) pe) in
           let len0 : length (reading o i 0 (i.width * v.next)) ≡ i.width * v.next * w = reading_long o deep i 0 (i.width * v.next) (first_zero i (i.width * v.next) far.clean) in
           let len1 : length (strip_bytes o i v s) ≡ places_of v s * w = reading_long o deep i (v.size.width * v.next) (places_of v s) clean in
           let ends = far.ends in
           let room = next_room s in
           let long = far.long in
-          let all : put_mid end (length out - end) out part' ≡ pasted first head (reading o i 0 (i.width * v'.next)) =
-          pasted-next first out (put_mid end (length out - end) out part') head (reading o i 0 (i.width * v.next)) (strip_bytes o i v s) end far.bytes put (omega arith) (omega arith)
-          ∙ ap (λ x. pasted first head (reading o i 0 (i.width * v.next) ++ x)) (bytes ∙ ap (λ k. reading o i k (i.width * rows_of v s)) (sym (zero-add (i.width * v.next))))
-          ∙ ap (pasted first head) (reading_join o i 0 (i.width * v.next) (i.width * rows_of v s) ∙ ap (reading o i 0) (sym mv)) in
-          let len : length (put_mid end (length out - end) out part') ≡ length out = ap length put ∙ length-pasted out end (strip_bytes o i v s) (omega arith) in (
+          let step : put_mid end (length out - end) out part' ≡ over (reading o i 0 (i.width * v.next) ++ strip_bytes o i v s) first =
+          over_next first out part' (reading o i 0 (i.width * v.next)) (strip_bytes o i v s) end far.bytes (omega arith) (omega arith)
+          (t.writes ∙ ap (λ e. end_bytes e (strip_bytes o i v s) part) is ∙ ap (over (strip_bytes o i v s)) pe) in
+          let all : put_mid end (length out - end) out part' ≡ over (reading o i 0 (i.width * v'.next)) first =
+          step ∙ ap (λ x. over (reading o i 0 (i.width * v.next) ++ x) first) (bytes ∙ ap (λ k. reading o i k (i.width * rows_of v s)) (sym (zero-add (i.width * v.next))))
+          ∙ ap (λ x. over x first) (reading_join o i 0 (i.width * v.next) (i.width * rows_of v s) ∙ ap (reading o i 0) (sym mv)) in
+          let len : length (put_mid end (length out - end) out part') ≡ length first =
+          ap length step ∙ length-over (reading o i 0 (i.width * v.next) ++ strip_bytes o i v s) first (omega (arith, length-append (reading o i 0 (i.width * v.next)) (strip_bytes o i v s))) in (
             nx,
             record {
               fit = fits_same i v v' es ek far.fit;
               room = let h = far.room in omega arith;
-              long = len ∙ far.long;
+              long = len;
               ends = let q : i.width * v'.next * w ≡ i.width * v.next * w + places_of v s * w = ap (λ k. k * w) (mv ∙ ap (λ k. i.width * v.next + k) (sym pl)) ∙ add-mul (i.width * v.next) (places_of v s) w in omega arith;
               bytes = all;
               clean = ap (first_fault (place_of i)) (mv ∙ ap (λ k. i.width * v.next + k) (sym pl)) ∙ fault_more ∙ clean;
@@ -138,12 +141,12 @@ module _ {K S : Type 0} (o : Ops K S) where
 
     -- behind the last row all is written
     pub all_written : (deep : (p : K) → length (o.samples p) ≡ o.depth) → v.next ≡ v.size.height
-        → (first_fault (place_of i) (i.width * i.height) ≡ None) × (out ≡ pasted first head (raster o i)) × (end ≡ head + length (raster o i))
+        → (first_fault (place_of i) (i.width * i.height) ≡ None) × (out ≡ over (raster o i) first) × (end ≡ length (raster o i))
     all_written deep e =
         let n : i.width * v.next ≡ i.width * i.height = ap (λ k. i.width * k) (e ∙ as_high o i v far.fit) in
         let clean : first_fault (place_of i) (i.width * i.height) ≡ None = ap (first_fault (place_of i)) (sym n) ∙ far.clean in
         let l = reading_long o deep i 0 (i.width * i.height) (first_zero i (i.width * i.height) clean) in
-        (clean, far.bytes ∙ ap (λ k. pasted first head (reading o i 0 k)) n, far.ends ∙ ap (λ k. head + k * pixel_width o i.maxval) n ∙ ap (λ k. head + k) (sym l))
+        (clean, far.bytes ∙ ap (λ k. over (reading o i 0 k) first) n, far.ends ∙ ap (λ k. k * pixel_width o i.maxval) n ∙ sym l)
 
   module _ (i : Image K) (s l m : ℕ) where
     pub end_zero : s ≡ 0 → file_end o i s l m ≡ early 15
@@ -201,10 +204,9 @@ module _ {K S : Type 0} (o : Ops K S) where
         }
 
   -- the header, and then the raster behind it, are the file
-  pub file-written : (i : Image K) (out out1 out2 : List ℕ) (head : ℕ) → out1 ≡ over (header_of o i) out → head ≡ length (header_of o i) → out2 ≡ pasted out1 head (raster o i)
-      → head + length (raster o i) ≤ length out → out2 ≡ over (file o i) out
-  file-written i out out1 out2 head e1 el e2 fit =
-      pasted-next out out1 out2 0 (header_of o i) (raster o i) head (e1 ∙ sym (pasted_front out (header_of o i))) e2 (zero-add (length (header_of o i)) ∙ sym el) fit ∙ pasted_front out (file o i)
+  pub file-written : (i : Image K) (out out1 part : List ℕ) (head : ℕ) → out1 ≡ over (header_of o i) out → head ≡ length (header_of o i) → part ≡ over (raster o i) (take (length out1 - head) (drop head out1))
+      → head + length (raster o i) ≤ length out → put_mid head (length out1 - head) out1 part ≡ over (file o i) out
+  file-written i out out1 part head e1 el e2 fit = over_next out out1 part (header_of o i) (raster o i) head e1 el fit e2
 
   pub raster_long : (deep : (p : K) → length (o.samples p) ≡ o.depth) (i : Image K) → done ≡ end_outcome (ending None (first_fault (place_of i) (i.width * i.height))) → length (raster o i) ≡ i.width * i.height * pixel_width o i.maxval
   raster_long deep i e = reading_long o deep i 0 (i.width * i.height) (first_zero i (i.width * i.height) (no_hole (first_fault (place_of i) (i.width * i.height)) e))

@@ -1,9 +1,9 @@
-ghost use Rattle.std.specs.Prelude.{◌≡◌, ℕ, ◌+◌, ◌-◌, ◌*◌, ◌<◌, ◌≤◌, length, slice_index};
+ghost use Rattle.std.specs.Prelude.{◌≡◌, ℕ, ◌*◌, ◌<◌, ◌≤◌, length, slice_index};
 ghost use Rattle.std.specs.List.{flat_map};
 ghost use Rattle.pixel.specs.Ops.{Under};
 ghost use Rattle.pixel.specs.Widths.{sample_width, pixel_width};
 ghost use Rattle.writer.specs.File.{sample_bytes, pixel_bytes};
-ghost use Rattle.writer.specs.Layout.{repeated, code_bytes, Known, row_bytes, rows_bytes};
+ghost use Rattle.writer.specs.Layout.{repeated, code_bytes, Known};
 ghost use Rattle.writer.specs.Calls.{over};
 
 use pixel::Kind;
@@ -67,50 +67,6 @@ pub(crate) fn put_same<K: Kind>(out: &mut [u8], pixel: K, count: usize, maxval: 
     let mut end = 0;
     for _ in 0..count {
         end += put_pixel(&mut out[end..], pixel, maxval);
-    }
-    end
-}
-
-/// Writes the pixels of codes, and then `pad` until there are `side` pixels.
-fn put_row<K: Kind>(out: &mut [u8], codes: &[u64], side: usize, pad: K, maxval: u16) -> usize
-    requires within { length codes.now ≤ side }
-    requires room { side * pixel_width K.ops maxval ≤ length out.old }
-    requires known { (k : ℕ) → k < length codes.now → Known K.ops maxval (K.ops.decode (slice_index codes.now k)) }
-    requires under { Under maxval (K.ops.samples pad) }
-    ensures end { result ≡ side * pixel_width K.ops maxval }
-    ensures out { out.new ≡ over (row_bytes K.ops maxval pad side codes.now) out.old }
-{
-    let end = put_codes::<K>(out, codes, maxval);
-    end + put_same(&mut out[end..], pad, side - codes.len(), maxval)
-}
-
-/// Writes rows of codes, each padded to `side` pixels.
-pub(crate) fn put_rows<K: Kind>(
-    out: &mut [u8],
-    codes: &[u64],
-    wide: usize,
-    high: usize,
-    side: usize,
-    pad: K,
-    maxval: u16,
-) -> usize
-    requires codes { high * wide ≤ length codes.now }
-    requires within { wide ≤ side }
-    requires room { high * (side * pixel_width K.ops maxval) ≤ length out.old }
-    requires known { (k : ℕ) → k < high * wide → Known K.ops maxval (K.ops.decode (slice_index codes.now k)) }
-    requires under { Under maxval (K.ops.samples pad) }
-    ensures end { result ≡ high * (side * pixel_width K.ops maxval) }
-    ensures out { out.new ≡ over (rows_bytes K.ops maxval pad side wide codes.now high) out.old }
-{
-    let mut end = 0;
-    for j in 0..high {
-        end += put_row(
-            &mut out[end..],
-            &codes[j * wide..j * wide + wide],
-            side,
-            pad,
-            maxval,
-        );
     }
     end
 }

@@ -7,6 +7,7 @@ mod laws;
 mod layout;
 mod row_writer;
 mod rows;
+mod square;
 mod tile;
 mod whole;
 

@@ -1,15 +1,12 @@
-ghost use Rattle.std.specs.Prelude.{◌≡◌, ℕ, ◌+◌, ◌-◌, ◌*◌, ◌<◌, ◌≤◌, length, ℤ, Some, None, slice_index};
+ghost use Rattle.std.specs.Prelude.{◌≡◌, ℕ, ℤ, None};
 ghost use Rattle.pixel.specs.Ops.{Under};
 ghost use Rattle.picture.specs.Places.{Place, pixel};
 ghost use Rattle.picture.specs.Steps.{ground_of, grounded};
 ghost use Rattle.picture.specs.Compose.{taken};
-ghost use Rattle.pixel.specs.Widths.{pixel_width};
-ghost use Rattle.writer.specs.Layout.{Known, square_bytes};
-ghost use Rattle.writer.specs.Calls.{over};
 ghost use Rattle.writer.specs.Tiles.{Seen, Tiled};
 
 use crate::header::{header_bytes, put_header};
-use crate::layout::{put_rows, put_same};
+use crate::square::Square;
 use picture::{Ground, Picture, Rect, Refusal, Size};
 use pixel::{Kind, pixel_bytes};
 
@@ -47,30 +44,6 @@ fn visible(size: Size, column: u32, row: u32, side: u32) -> Option<Rect>
     })
 }
 
-/// Writes rows of codes, padded to a square.
-fn put_square<K: Kind>(
-    out: &mut [u8],
-    codes: &[u64],
-    wide: usize,
-    high: usize,
-    side: usize,
-    pad: K,
-    maxval: u16,
-) -> usize
-    requires codes { high * wide ≤ length codes.now }
-    requires across { wide ≤ side }
-    requires down { high ≤ side }
-    requires small { side ≤ 256 }
-    requires room { side * side * pixel_width K.ops maxval ≤ length out.old }
-    requires known { (k : ℕ) → k < high * wide → Known K.ops maxval (K.ops.decode (slice_index codes.now k)) }
-    requires under { Under maxval (K.ops.samples pad) }
-    ensures end { result ≡ side * side * pixel_width K.ops maxval }
-    ensures out { out.new ≡ over (square_bytes K.ops maxval pad side wide high codes.now) out.old }
-{
-    let end = put_rows(out, codes, wide, high, side, pad, maxval);
-    end + put_same(&mut out[end..], pad, (side - high) * side, maxval)
-}
-
 /// Writes the file of a square of the picture at the start of the buffer: tile (column, row) starts at (column × side, row × side), and is padded right and below as an embedding that names no ground. Answers how many bytes it has. The work buffer holds the codes of the part inside the picture.
 pub fn write_tile<P: Picture>(
     picture: &mut P,
@@ -84,23 +57,23 @@ pub fn write_tile<P: Picture>(
 {
     let size = picture.size();
     let part = visible(size, column, row, side).ok_or(Refusal::NoTile)?;
-    let square = side as usize * side as usize;
     let bytes = header_bytes(side, side, size.maxval)
-        + square * pixel_bytes::<P::Pixel>(size.maxval);
+        + side as usize * side as usize * pixel_bytes::<P::Pixel>(size.maxval);
     if work.len() < part.area() || out.len() < bytes {
         return Err(Refusal::BufferTooShort);
     }
     picture.prepare(part, work)?;
     let head = put_header(out, P::Pixel::mark(), side, side, size.maxval);
-    let pad = padding::<P::Pixel>(size.maxval);
-    put_square(
+    let square = Square::<P::Pixel> {
+        side: side as usize,
+        pad: padding(size.maxval),
+        maxval: size.maxval,
+    };
+    square.put(
         &mut out[head..],
         work,
         part.width as usize,
         part.height as usize,
-        side as usize,
-        pad,
-        size.maxval,
     );
     Ok(bytes)
 }

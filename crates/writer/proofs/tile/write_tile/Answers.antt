@@ -101,8 +101,8 @@ returns-in_err-prepare g c =
           c.prepare.new.self c.prepare.new.buffer part room a.result c.in_err-prepare.field-0.0 (tile_end o i col row side (length work) (length out)) (t.1 ∙ ap Err t.2) e c.in_err-prepare.ensures;
     }
 
-pub put_square-requires : goal.put_square-requires
-put_square-requires g c =
+pub put-requires : goal.put-requires
+put-requires g c =
     let o = g.P.Pixel.Kind.ops in
     let p = c.args.picture.now in
     let i = (g.P.Picture.model p).shown in
@@ -124,7 +124,6 @@ put_square-requires g c =
       codes = omega (arith, c.prepare.auto.buffer);
       across = omega (arith, is.width);
       down = omega (arith, is.height);
-      small = squares.small o i col row side x is;
       room =
           let n : side * side * c.pixel_bytes.result ≡ side * side * pixel_width o z.maxval = ap (λ k. side * side * k) c.pixel_bytes.ensures.value in
           omega (arith, c.if-out-bytes.false, c.put_header-head.ensures.end, c.header_bytes.ensures.value c.mark.result, c.put_header-head.auto.out, length-behind c.put_header-head.new.out c.put_header-head.result);
@@ -133,7 +132,6 @@ put_square-requires g c =
           let E : ℕ → Type 0 = λ m. Known o m (o.decode (get_or (put None (λ j. code_at o (place_of (cut o i col row side) j)) (cut_places o i col row side) work) k 0)) in
           subst D (sym are) (subst E (sym c.size-size.ensures.maxval)
           (codes.known o g.met.P.Pixel.Kind.decodes i.maxval (place_of (cut o i col row side)) (cut_places o i col row side) work clean (squares.cut_dim o i col row side x is (g.met.P.Picture.bounded p)) k (omega arith)));
-      under = c.padding-pad.ensures.under;
     }
 
 pub returns : goal.returns
@@ -158,9 +156,9 @@ returns g c =
     let buffer = c.prepare.new.buffer in
     let clean = ends.clean o g.P.Picture.model g.P.Picture.count (place_of (cut o i col row side)) (cut_places o i col row side) (file o (tile o i col row side)) p work out x c.prepare.new.self buffer part room c.in_ok-prepare.ensures in
     let are = ends.codes_are o g.P.Picture.model g.P.Picture.count (place_of (cut o i col row side)) (cut_places o i col row side) (file o (tile o i col row side)) p work out x c.prepare.new.self buffer part room c.in_ok-prepare.ensures in
-    let pad = c.padding-pad.result in
+    let pad = c.padding.result in
     let ground : (at : ℕ → ℕ → Place g.row.P-Pixel.Denot) (W H : ℕ) (u v : ℤ) → taken o i.maxval at (grounded (ground_of None) W H u v) ≡ pixel pad =
-    λ at W H u v. ap (λ (m : ℕ). taken o m at (grounded (ground_of None) W H u v)) (sym c.size-size.ensures.maxval) ∙ c.padding-pad.ensures.shown at W H u v in
+    λ at W H u v. ap (λ (m : ℕ). taken o m at (grounded (ground_of None) W H u v)) (sym c.size-size.ensures.maxval) ∙ c.padding.ensures.shown at W H u v in
     let shown : (k : ℕ) → k < cut_places o i col row side → get_or buffer k 0 ≡ code_at o (place_of (cut o i col row side) k) =
     λ k h. ap (λ t. get_or t k 0) are ∙ codes.code_at_lem (λ j. code_at o (place_of (cut o i col row side) j)) (cut_places o i col row side) work k h in
     let long : cut_places o i col row side ≤ length buffer = omega (arith, c.prepare.auto.buffer) in
@@ -168,7 +166,7 @@ returns g c =
       part = ends.done_wrote o g.P.Picture.model g.P.Picture.count (place_of (cut o i col row side)) (cut_places o i col row side) (file o (tile o i col row side)) p work out x
           c.prepare.new.self buffer part room c.in_ok-prepare.ensures (tile_end o i col row side (length work) (length out)) (c.header_bytes.result + side * side * c.pixel_bytes.result) _ e
           (bytes ∙ sym (squares.file_long o i col row side pad ground g.met.P.Pixel.Kind.decodes buffer clean shown long g.met.P.Pixel.Kind.deep))
-          (squares.file-written o i col row side pad ground g.met.P.Pixel.Kind.decodes buffer clean shown long g.met.P.Pixel.Kind.deep out c.put_header-head.new.out c.put_square.new.out
+          (squares.file-written o i col row side pad ground g.met.P.Pixel.Kind.decodes buffer clean shown long g.met.P.Pixel.Kind.deep out c.put_header-head.new.out c.put.new.out
           c.mark.result x.width x.height z.maxval c.put_header-head.result c.mark.ensures is.width is.height c.size-size.ensures.maxval
-          c.put_header-head.ensures.out c.put_header-head.ensures.end c.put_square.ensures.out fit);
+          c.put_header-head.ensures.out c.put_header-head.ensures.end c.put.ensures.out fit);
     }

@@ -1,4 +1,4 @@
-use Rattle.std.proofs.Common.{◌≡◌, ℕ, ◌+◌, ◌*◌, ◌<◌, min, ◌&&◌, eqb, ◌⊎◌, length, sym, refl, ap, ◌∙◌, inl, inr, arith, length-append}
+use Rattle.std.proofs.Common.{◌≡◌, ℕ, ◌+◌, ◌*◌, ◌<◌, min, ◌&&◌, eqb, ◌⊎◌, length, Ok, Err, sym, refl, ap, ◌∙◌, inl, inr, arith, length-append}
 use Rattle.std.proofs.lemmas.Bool.{and_from, eq-eqb}
 use Rattle.pixel.specs.Ops.{Ops}
 use Rattle.picture.specs.declared.fault.Refusal.TheVariants.{NoRows, BufferTooShort}
@@ -6,6 +6,8 @@ use Rattle.picture.specs.declared.size.Size.{Size}
 use Rattle.picture.specs.Places.{first_fault}
 use Rattle.picture.specs.Images.{Image}
 use Rattle.writer.specs.File.{place_of, pixel_width, header, header_of, raster}
+use Rattle.std.proofs.lemmas.Result.{err_from_is_err_and}
+use Rattle.writer.specs.Calls.{outcome_of}
 use Rattle.writer.specs.Whole.{file_width}
 use Rattle.writer.proofs.Wholes as wholes
 use Rattle.writer.proofs.whole.write_file.Goals as goal
@@ -40,8 +42,8 @@ returns-then-work-wide g c =
     wholes.early_filed o g.P.Picture.model g.P.Picture.count c.args.picture.now s c.args.work.now c.args.out.now 11 BufferTooShort
     (wholes.end_short o i s (length c.args.work.now) (length c.args.out.now) c.if-height-eq0.false short) refl
 
-pub put_strips-end-requires : goal.put_strips-end-requires
-put_strips-end-requires g c =
+pub put_strips-rows-requires : goal.put_strips-rows-requires
+put_strips-rows-requires g c =
     let o = g.P.Pixel.Kind.ops in
     let i = (g.P.Picture.model c.args.picture.now).shown in
     let z = c.size-size.result in
@@ -69,17 +71,17 @@ returns g c =
     let by = bytes_are o i z c.size-size.ensures.width c.size-size.ensures.height c.size-size.ensures.maxval c.header_bytes.result c.pixel_bytes.result c.header_bytes.ensures.value c.pixel_bytes.ensures.value in
     let co = codes_are o i z c.size-size.ensures.width c.size-size.ensures.height c.size-size.ensures.maxval s c.min.result c.min.ensures in
     let x = c.in_ok-head.ensures.begun in
-    wholes.filed o g.P.Picture.model g.P.Picture.count c.args.picture.now s c.args.work.now c.args.out.now c.put_strips-end.result c.put_strips-end.new.picture c.put_strips-end.new.work
-    c.put_strips-end.new.out (first_fault (place_of i) (i.width * i.height))
+    let r = c.in_ok-rows.ensures in
+    let long = wholes.raster_long o g.met.P.Pixel.Kind.deep i r.answers in
+    wholes.filed o g.P.Picture.model g.P.Picture.count c.args.picture.now s c.args.work.now c.args.out.now (Ok (c.in_ok-head.head + c.in_ok-rows.field-0)) c.put_strips-rows.new.picture c.put_strips-rows.new.work
+    _ (first_fault (place_of i) (i.width * i.height))
     (wholes.end_room o i s (length c.args.work.now) (length c.args.out.now) c.if-height-eq0.false (omega (arith, c.if-work-wide.false)) (omega (arith, c.if-out-bytes.false)))
-    c.put_strips-end.ensures.answers
-    (λ d.
-    let w = c.put_strips-end.ensures.writes d in
-    let long = wholes.raster_long o g.met.P.Pixel.Kind.deep i (sym d ∙ c.put_strips-end.ensures.answers) in (
-      wholes.file-written o i c.args.out.now c.begin.new.out c.put_strips-end.new.out c.in_ok-head.head x.writes x.amounts w.0 (omega (arith, c.if-out-bytes.false, x.amounts)),
-      w.1 ∙ ap (λ n. n + length (raster o i)) x.amounts ∙ sym (length-append (header_of o i) (raster o i)),
+    r.answers
+    (λ d. (
+      wholes.file-written o i c.args.out.now c.begin.new.out c.put_strips-rows.new.out c.in_ok-head.head x.writes x.amounts (r.writes refl) (omega (arith, c.if-out-bytes.false, x.amounts)),
+      ap (λ n. n + c.in_ok-rows.field-0) x.amounts ∙ ap (λ n. length (header_of o i) + n) (r.amounts refl) ∙ sym (length-append (header_of o i) (raster o i)),
     ))
-    c.put_strips-end.ensures.keeps
+    r.keeps
 
 pub returns-in_err-head : goal.returns-in_err-head
 returns-in_err-head g c =
@@ -89,3 +91,22 @@ returns-in_err-head g c =
     let by = bytes_are o i z c.size-size.ensures.width c.size-size.ensures.height c.size-size.ensures.maxval c.header_bytes.result c.pixel_bytes.result c.header_bytes.ensures.value c.pixel_bytes.ensures.value in
     let x = c.in_err-head.ensures.begun.0 in
     absurd (omega (arith, c.if-out-bytes.false))
+
+pub returns-in_err-rows : goal.returns-in_err-rows
+returns-in_err-rows g c =
+    let o = g.P.Pixel.Kind.ops in
+    let i = (g.P.Picture.model c.args.picture.now).shown in
+    let z = c.size-size.result in
+    let s = c.args.height in
+    let by = bytes_are o i z c.size-size.ensures.width c.size-size.ensures.height c.size-size.ensures.maxval c.header_bytes.result c.pixel_bytes.result c.header_bytes.ensures.value c.pixel_bytes.ensures.value in
+    let co = codes_are o i z c.size-size.ensures.width c.size-size.ensures.height c.size-size.ensures.maxval s c.min.result c.min.ensures in
+    let a = c.from_residual-in_err-rows in
+    let t = err_from_is_err_and a.result a.ensures.1 in
+    let y : a.result ≡ Err _ = t.1 ∙ ap Err t.2 in
+    let r = c.in_err-rows.ensures in
+    wholes.filed o g.P.Picture.model g.P.Picture.count c.args.picture.now s c.args.work.now c.args.out.now a.result c.put_strips-rows.new.picture c.put_strips-rows.new.work
+    _ (first_fault (place_of i) (i.width * i.height))
+    (wholes.end_room o i s (length c.args.work.now) (length c.args.out.now) c.if-height-eq0.false (omega (arith, c.if-work-wide.false)) (omega (arith, c.if-out-bytes.false)))
+    (ap outcome_of y ∙ r.answers)
+    (λ d. absurd (wholes.not_done c.in_err-rows.field-0.0 (sym (ap outcome_of y) ∙ d)))
+    r.keeps
