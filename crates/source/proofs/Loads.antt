@@ -47,11 +47,18 @@ lacked_by at p step n x s h =
     ∙ ap (λ z. before (at z) z (answer at (p + r * step + d + 1) (step - d - 1))) q ∙ s.lacks (answer at (p + r * step + d + 1) (step - d - 1)) in
     record { within = below; bytes = omega (arith, w.0, less); there = t; lacks = ap lacking v }
 
-pub lacked : (at : ℕ → Cell) (p step n : ℕ) (x : Lack) → 1 ≤ step → Err x ≡ answer at p (n * step) → (p ≤ place_of x) × Lacked at p step n x ((place_of x - p) / step)
+lacked : (at : ℕ → Cell) (p step n : ℕ) (x : Lack) → 1 ≤ step → Err x ≡ answer at p (n * step) → (p ≤ place_of x) × Lacked at p step n x ((place_of x - p) / step)
 lacked at p step n x h e =
     let s = stop at p (n * step) x (sym e) in
     let q : s.count ≡ place_of x - p = omega (arith, s.place) in
     (omega (arith, s.place), subst (λ c. Lacked at p step n x (c / step)) q (lacked_by at p step n x s h))
+
+-- it is behind the first, and the bytes of the pixels before it are among those that were asked for
+pub before_lack : (at : ℕ → Cell) (p step n m q : ℕ) (x : Lack) → 1 ≤ step → Err x ≡ answer at p m → m ≡ n * step → q ≡ place_of x
+    → (p ≤ q) × ((q - p) / step * step ≤ n * step)
+before_lack at p step n m q x h e em eq =
+    let k = lacked at p step n x h (e ∙ ap (answer at p) em) in
+    subst (λ z. (p ≤ z) × ((z - p) / step * step ≤ n * step)) (sym eq) (k.0, k.1.bytes)
 
 pub loaded_all : (at : ℕ → Cell) (p step n : ℕ) (old part rest : List ℕ) → length old ≡ n * step → length part ≡ length old → Ok tt ≡ answer at p (length old) → part ≡ filled at p old
     → Loaded at p step n (part ++ rest) n None

@@ -37,6 +37,7 @@ struct Load {
     lack: Option<Cause>,
 }
 
+/// Not a `From`, since both types are of other crates.
 fn cause_of(lack: Lack) -> Cause
     ensures { result ≡ lack_cause lack }
 {

@@ -1,7 +1,6 @@
-use Rattle.std.proofs.Common.{◌+◌, ◌-◌, ◌*◌, ◌≤◌, ◌≡◌, ◌≢◌, ℕ, List, length, get_or, take, drop, Some, sym, ap, ◌∙◌, mul_comm, arith, get_or-set_other, get_or-set_same, below_more}
+use Rattle.std.proofs.Common.{◌-◌, ◌*◌, ◌≡◌, ◌≢◌, ℕ, List, length, get_or, take, drop, Some, sym, ap, ◌∙◌, arith, get_or-set_other, get_or-set_same, below_more}
 use Rattle.std.proofs.Math.Path.{fun_ext}
-use Rattle.std.proofs.lemmas.List.{length-take, length-drop, get_or-drop, take_all}
-use Rattle.picture.proofs.Serving.{row_end}
+use Rattle.std.proofs.lemmas.List.{length-drop, get_or-drop, take_all}
 use Rattle.source.specs.Raster.{code_of, from, wide}
 use Rattle.source.proofs.Widths.{same_width}
 use Rattle.source.proofs.samples.decode.Goals as goal
@@ -22,15 +21,6 @@ returns-in_default g c =
       next = λ _. ap (λ s. code_of o (wide m) m (from c.args.bytes.now (k * s))) (sym same)
           ∙ ap (code_of o (wide m) m) (sym (rest_from c.args.bytes.now (k * c.pixel_bytes-step.result))) ∙ sym c.in_default.ensures;
     }
-
-pub pixel_code-requires : goal.pixel_code-requires
-pixel_code-requires g c =
-    let s = c.pixel_bytes-step.result in
-    let same = c.pixel_bytes-step.ensures.value ∙ same_width g.K.Kind.ops c.args.maxval in
-    let n = length c.args.out.now in
-    let e : s * n ≤ length c.args.bytes.now = omega (arith, mul_comm s n, ap (λ x. n * x) same, c.requires) in
-    let h : c.loop-k.k * s + s ≤ length c.args.bytes.now = row_end c.loop-k.k s n (length c.args.bytes.now) (omega arith) e in
-    simp (length-take, length-drop) (omega (arith, h, same))
 
 pub loop-k-preserved : goal.loop-k-preserved
 loop-k-preserved g c =

@@ -1,30 +1,13 @@
-use Rattle.std.proofs.Common.{◌≡◌, ◌*◌, ◌≤◌, length, take, sym, refl, ap, ◌∙◌, inl, inr, mul-le-mul, arith, rules}
+use Rattle.std.proofs.Common.{◌≡◌, length, take, sym, refl, ap, ◌∙◌, inl, inr, arith}
 use Rattle.std.proofs.lemmas.List.{length-take}
 use Rattle.store.specs.Cells.{capped}
 use Rattle.picture.specs.Prepare.{lined, or_fault}
 use Rattle.picture.proofs.Faults.{shown_clean}
-use Rattle.source.specs.Files.{pixel_bytes}
 use Rattle.source.specs.Rasters.{Lawful, ends-hole, ends-none, shown-append}
 use Rattle.source.specs.Showing.{shown_of}
 use Rattle.source.proofs.Widths.{same_width}
 use Rattle.source.proofs.file.FileSource.run.Goals as goal
 use Rattle.source.proofs.file.FileSource.run.Goals.{then-taken-pixels, else-taken-pixels}
-
-pub read_pixels-pixels-requires : goal.read_pixels-pixels-requires
-read_pixels-pixels-requires g c =
-    let l : length c.args.self.now.block ≡ 6144 = search rules in
-    record { some = c.pixel_bytes-step.ensures.some; room = omega (arith, mul-le-mul c.requires.short c.pixel_bytes-step.ensures.few) }
-
-pub decode-taken-requires : goal.decode-taken-requires
-decode-taken-requires g c =
-    let n = c.read_pixels-pixels.result.pixels in
-    let o = g.K.Kind.ops in
-    let m = c.args.self.now.raster.size.maxval in
-    let l : length c.args.self.now.block ≡ 6144 = search rules in
-    let few : n ≤ 1024 = omega (arith, c.requires.short, c.read_pixels-pixels.ensures.within) in
-    let b : n * c.pixel_bytes-step.result ≤ 6144 = omega (arith, mul-le-mul few c.pixel_bytes-step.ensures.few) in
-    let e : length (take n c.args.out.now) ≡ n = simp length-take (omega (arith, c.read_pixels-pixels.ensures.within)) in
-    omega (arith, ap (λ z. z * pixel_bytes o m) e, ap (λ z. n * z) (c.pixel_bytes-step.ensures.value ∙ same_width o m), c.read_pixels-pixels.auto.block)
 
 pub returns-in-None : goal.returns-in-None
 returns-in-None g c =

@@ -1,19 +1,10 @@
-use Rattle.std.proofs.Common.{◌≡◌, ℕ, ◌+◌, ◌-◌, ◌*◌, length, Err, sym, ap, ◌∙◌, arith, rules}
-use Rattle.std.proofs.lemmas.List.{length-take, length-drop}
+use Rattle.std.proofs.Common.{◌≡◌, ◌+◌, ◌-◌, ◌*◌, length, Err, sym, ap, ◌∙◌, arith, rules}
 use Rattle.std.proofs.lemmas.Result.{err_from_is_err_and}
 use Rattle.picture.specs.Prepare.{Shown, coded, first_in, lined, or_fault}
 use Rattle.picture.proofs.Faults.{first_moved, first_on, line_on, shown_clean}
 use Rattle.picture.proofs.Serving.{shown_more}
-use Rattle.source.specs.declared.raster.Raster.{Raster}
 use Rattle.source.specs.Showing.{same_shown, shown_of}
 use Rattle.source.proofs.file.FileSourceRows.row.Goals as goal
-
-pub run-requires-clause-across : goal.run-requires-clause-across
-run-requires-clause-across g c =
-    let w = ap (λ (r : Raster). r.size.width) c.loop-i.invariant.1.1 in simp (length-take, length-drop) (omega (arith, w))
-
-pub run-requires-clause-down : goal.run-requires-clause-down
-run-requires-clause-down g c = let h = ap (λ (r : Raster). r.size.height) c.loop-i.invariant.1.1 in omega arith
 
 pub loop-i-preserved : goal.loop-i-preserved
 loop-i-preserved g c =
@@ -30,8 +21,8 @@ loop-i-preserved g c =
       (c.loop-i.invariant.1.0 ∙ c.run.ensures.same.0, c.loop-i.invariant.1.1 ∙ c.run.ensures.same.1, c.loop-i.invariant.1.2 ∙ c.run.ensures.same.2),
     )
 
-pub returns-in_err-run : goal.returns-in_err-run
-returns-in_err-run g c =
+pub returns-in_err-run-clause-answer : goal.returns-in_err-run-clause-answer
+returns-in_err-run-clause-answer g c =
     let o = g.K.Kind.ops in
     let from = c.loop-i.i * 1024 in
     let i = shown_of o g.S.Store.at c.args.self.now in
@@ -40,17 +31,13 @@ returns-in_err-run g c =
     let l : length c.run.new.out ≡ c.min-end.result - from = search rules in
     let a : Err c.in_err-run.field-0.0 ≡ first_in (lined i (c.args.left + from) c.args.row) (c.min-end.result - from) =
     first_moved i _ (c.args.left + from) c.args.row _ (c.min-end.result - from) _ c.in_err-run.ensures.answer v (sym c.run.auto.out ∙ l) in
-    record {
-      answer = p.1 ∙ ap Err p.2
-          ∙ first_on i c.args.left c.args.row from (c.min-end.result - from) (length c.args.out.now) c.in_err-run.field-0.0
-          (shown_clean o (lined i c.args.left c.args.row) from c.loop-i.out (λ j d. c.loop-i.invariant.0 j (omega arith))) a (omega arith);
-      shown = λ z. let y = p.1 in let n : ◌≡◌ {A = ℕ} 0 1 = cc in absurd (omega arith);
-      same = (c.loop-i.invariant.1.0 ∙ c.run.ensures.same.0, c.loop-i.invariant.1.1 ∙ c.run.ensures.same.1, c.loop-i.invariant.1.2 ∙ c.run.ensures.same.2);
-    }
+    p.1 ∙ ap Err p.2
+    ∙ first_on i c.args.left c.args.row from (c.min-end.result - from) (length c.args.out.now) c.in_err-run.field-0.0
+    (shown_clean o (lined i c.args.left c.args.row) from c.loop-i.out (λ j d. c.loop-i.invariant.0 j (omega arith))) a (omega arith)
 
-pub returns : goal.returns
-returns g c =
+pub returns-clause-answer : goal.returns-clause-answer
+returns-clause-answer g c =
     let o = g.K.Kind.ops in
     let f = lined (shown_of o g.S.Store.at c.args.self.now) c.args.left c.args.row in
     let s : Shown o f (length c.args.out.now) c.loop-i.out = λ k h. c.loop-i.invariant.0 k (omega arith) in
-    record { answer = ap or_fault (sym (shown_clean o f (length c.args.out.now) c.loop-i.out s)); shown = λ z. s; same = c.loop-i.invariant.1 }
+    ap or_fault (sym (shown_clean o f (length c.args.out.now) c.loop-i.out s))
