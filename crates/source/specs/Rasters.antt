@@ -136,7 +136,7 @@ module _ {K S : Type 0} (o : Ops K S) where
       clean = shown_clean o (lined image left row) t out (run-shown pixels t block out laws decoded.within loaded.there loaded.bytes decoded)
 
       -- the run ends at a sample above maxval
-      ends_above : t < pixels → Err (fault_at r.source (left + t) row Above) ≡ first_in (lined image left row) n
+      pub ends_above : t < pixels → Err (fault_at r.source (left + t) row Above) ≡ first_in (lined image left row) n
       ends_above h =
           ap or_fault (sym (first_at (lined image left row) t n (fault_at r.source (left + t) row Above) (omega (arith, loaded.within)) clean
           (run_above pixels t block out h loaded.there loaded.bytes decoded)))
@@ -145,7 +145,7 @@ module _ {K S : Type 0} (o : Ops K S) where
       all_taken h = omega (arith, decoded.within)
 
       -- the run ends at a byte that is lacking
-      ends_lacking : (c : Cause) → lack ≡ Some c → pixels ≤ t → Err (fault_at r.source (left + t) row c) ≡ first_in (lined image left row) n
+      pub ends_lacking : (c : Cause) → lack ≡ Some c → pixels ≤ t → Err (fault_at r.source (left + t) row c) ≡ first_in (lined image left row) n
       ends_lacking c e h =
           let k : Lacks at begin step n pixels (Some c) = subst (Lacks at begin step n pixels) e loaded.lacks in
           let q = all_taken h in
@@ -164,7 +164,7 @@ module _ {K S : Type 0} (o : Ops K S) where
           w
 
       -- the run is whole
-      ends_whole : lack ≡ None → pixels ≤ t → (t ≡ n) × Shown o (lined image left row) n out
+      pub ends_whole : lack ≡ None → pixels ≤ t → (t ≡ n) × Shown o (lined image left row) n out
       ends_whole e h =
           let k : Lacks at begin step n pixels None = subst (Lacks at begin step n pixels) e loaded.lacks in
           let q : t ≡ n = all_taken h ∙ k in

@@ -44,11 +44,23 @@ module _ (w : Bool) (byte : ℕ → ℕ) where
   samples_at : (d k : ℕ) → k < d → slice_index (samples_of w byte d) k ≡ sample_of w byte k
   samples_at d k h = get_or-map-range_with_len (sample_of w byte) 0 d k k 0 h (omega arith)
 
+  -- the samples so far leave room for one more
+  pub code_small : (m k code : ℕ) → k ≤ 2 → m ≤ 65535 → under m (samples_of w byte k) ≡ true → code ≡ joined (samples_of w byte k) → code < 2 ^ 32
+  code_small m k code few fits u e =
+      let l : length (samples_of w byte k) ≤ 2 = omega (arith, samples_long k) in omega (arith, e, joined_small m (samples_of w byte k) u fits l)
+
   -- one sample above maxval is enough
   pub code_none : {K S : Type 0} (o : Ops K S) (m k : ℕ) → k < o.depth → m < sample_of w byte k → code_of o w m byte ≡ None
   code_none o m k h l =
       cond-false (under m (samples_of w byte o.depth)) _ _
       (false_of (under m (samples_of w byte o.depth)) (λ e. let a = under_at m (samples_of w byte o.depth) e k in omega (arith, samples_at o.depth k h)))
+
+pub under_of : (m : ℕ) (xs : List ℕ) → ((j : ℕ) → j < length xs → slice_index xs j ≤ m) → under m xs ≡ true
+under_of m [] h = refl
+under_of m (x ∷ xs) h = and_from (nat_le x m) (under m xs) (le-leb x m (h 0 (omega arith))) (under_of m xs (λ j l. h (suc j) (omega arith)))
+
+pub under_not : (m : ℕ) (xs : List ℕ) (k : ℕ) → m < slice_index xs k → under m xs ≡ false
+under_not m xs k h = false_of (under m xs) (λ e. let a = under_at m xs e k in omega arith)
 
 under_list : (m : ℕ) (f : ℕ → ℕ) (ks : List ℕ) → list_all (λ k. nat_le (f k) m) ks ≡ under m (map f ks)
 under_list m f [] = refl
