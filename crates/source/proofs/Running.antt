@@ -1,7 +1,7 @@
 -- The steps of a run, as the code makes them.
-use Rattle.std.proofs.Common.{◌≡◌, ℕ, ◌+◌, ◌-◌, ◌<◌, ◌≤◌, min, true, eqb, List, [], ◌∷◌, length, get_or, take, drop, Ok, Err, Result, sym, refl, ap, ◌∙◌, ⊎_elim, arith}
+use Rattle.std.proofs.Common.{◌≡◌, ℕ, ◌+◌, ◌-◌, ◌<◌, ◌≤◌, true, eqb, List, [], ◌∷◌, length, get_or, take, drop, Ok, Err, Result, sym, refl, ap, ◌∙◌, arith}
 use Rattle.std.proofs.lemmas.List.{drop_more, drop_all, take_all}
-use Rattle.std.proofs.lemmas.Bool.{cases_lt, eq-eqb}
+use Rattle.std.proofs.lemmas.Bool.{eq-eqb}
 use Rattle.source.specs.declared.header.Header.{Header}
 use Rattle.source.specs.declared.header.HeaderError.{HeaderError}
 use Rattle.source.specs.declared.header.HeaderError.TheVariants.{End}
@@ -51,8 +51,3 @@ header_of_mark mark (x ∷ y ∷ xs) h a b =
     let q : eqb y mark ≡ true = eq-eqb y mark b in
     let t : take (length (x ∷ y ∷ xs) - 2) xs ≡ xs = take_all (length (x ∷ y ∷ xs) - 2) xs (omega arith) in
     rw (p, q, t)
-
--- the first bytes, as many as there are
-pub take_min : (n m : ℕ) (xs : List ℕ) → n ≡ min (length xs) m → take n xs ≡ take m xs
-take_min n m xs e =
-    ⊎_elim (λ h. take_all n xs (omega arith) ∙ sym (take_all m xs (omega arith))) (λ h. ap (λ k. take k xs) (let i : n ≡ m = omega arith in i)) (cases_lt (length xs) m)

@@ -18,7 +18,7 @@ use store::{Lack, Store};
 const RUN: usize = 1024;
 
 /// The bytes of so many pixels: a pixel has at most 6.
-pub(crate) const BLOCK: usize = 6144;
+pub(crate) const BLOCK: usize = 6 * RUN;
 
 /// The picture in a file, whose bytes a store has.
 #[derive(Drop)]

@@ -11,6 +11,7 @@ use picture::Refusal;
 pub const HEADER_LIMIT: usize = 4096;
 
 /// What a header says, and how many bytes it has.
+// No `Size`: what the clauses say of a reader they say of any, and a size has its limits in its type.
 #[derive(Clone, Copy, PartialEq, Eq, Debug)]
 pub struct Header {
     /// The pixels of a row.

@@ -119,6 +119,7 @@ impl<C: Codes, K: Kind> Rows for MemorySource<C, K> {
     }
 }
 
+// As a file's: one type over `Rows` for both would need a trait of its own for the size and its laws, and is no plainer.
 impl<C: Codes, K: Kind> Picture for MemorySource<C, K> {
     type Pixel = K;
 

@@ -1,7 +1,7 @@
-use Rattle.std.proofs.Common.{ℕ, get_or, ◌+◌, ◌*◌, ◌^◌, ◌<◌, ◌≤◌, length, sym, ap, ◌∙◌, arith, rules}
+use Rattle.std.proofs.Common.{ℕ, get_or, ◌+◌, ◌*◌, ◌≤◌, sym, ap, ◌∙◌, arith, rules}
 use Rattle.pixel.specs.Ops.{joined}
 use Rattle.source.specs.Raster.{sample_of, samples_of, under}
-use Rattle.source.specs.Sampling.{behind_push, code_none, joined_small, samples_long, samples_more, under_push}
+use Rattle.source.specs.Sampling.{behind_push, code_none, code_small, samples_more, under_push}
 use Rattle.source.proofs.samples.pixel_code.Goals as goal
 
 pub returns-then-value-maxval : goal.returns-then-value-maxval
@@ -10,20 +10,14 @@ returns-then-value-maxval g c =
 
 pub overflow_mul-code : goal.overflow_mul-code
 overflow_mul-code g c =
-    let b = λ (j : ℕ). get_or c.args.pixel.now j 0 in
     let few = g.met.K.Kind.few in
-    let l : length (samples_of c.args.wide b c.loop-k.k) ≤ 2 = omega (arith, samples_long c.args.wide b c.loop-k.k) in
-    let m : c.args.maxval ≤ 65535 = search rules in
-    let s : c.loop-k.code < 2 ^ 32 = omega (arith, joined_small c.args.maxval (samples_of c.args.wide b c.loop-k.k) c.loop-k.invariant.0 m l) in
+    let s = code_small c.args.wide (λ j. get_or c.args.pixel.now j 0) c.args.maxval c.loop-k.k c.loop-k.code (omega arith) (search rules) c.loop-k.invariant.0 c.loop-k.invariant.1 in
     search rules
 
 pub overflow_add-code : goal.overflow_add-code
 overflow_add-code g c =
-    let b = λ (j : ℕ). get_or c.args.pixel.now j 0 in
     let few = g.met.K.Kind.few in
-    let l : length (samples_of c.args.wide b c.loop-k.k) ≤ 2 = omega (arith, samples_long c.args.wide b c.loop-k.k) in
-    let m : c.args.maxval ≤ 65535 = search rules in
-    let s : c.loop-k.code < 2 ^ 32 = omega (arith, joined_small c.args.maxval (samples_of c.args.wide b c.loop-k.k) c.loop-k.invariant.0 m l) in
+    let s = code_small c.args.wide (λ j. get_or c.args.pixel.now j 0) c.args.maxval c.loop-k.k c.loop-k.code (omega arith) (search rules) c.loop-k.invariant.0 c.loop-k.invariant.1 in
     search rules
 
 pub loop-k-preserved : goal.loop-k-preserved
