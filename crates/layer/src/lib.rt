@@ -14,6 +14,7 @@ mod layer;
 mod making;
 mod masks;
 mod mix;
+mod over;
 mod parts;
 mod piece;
 mod pieces;
