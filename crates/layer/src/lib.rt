@@ -5,7 +5,6 @@
 mod aim;
 mod aims;
 mod ask;
-mod blended;
 mod cut;
 mod cuts;
 mod draws;
@@ -17,7 +16,6 @@ mod mix;
 mod over;
 mod parts;
 mod piece;
-mod pieces;
 mod places;
 mod showing;
 mod spread;

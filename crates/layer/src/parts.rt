@@ -9,10 +9,10 @@ ghost use Rattle.layer.specs.Told.{Told};
 
 use crate::aim::{Aim, Lens};
 use crate::ask::ask;
-use crate::blended::Blended;
 use crate::draws::{Draw, Plain, lay};
 use crate::layer::Layer;
 use crate::masks::of_mask;
+use crate::mix::Blended;
 use crate::piece::Piece;
 use crate::undrawn::Undrawn;
 use crate::weights::{Filter, Ones, Weights};
@@ -95,15 +95,13 @@ impl<P: Picture> Layer<P> {
         };
         match aim {
             Aim::Black => {
-                let pixel: P::Pixel = Kind::black();
-                let plain = Plain { code: pixel.code() };
-                lay(&plain, &self.scratch, piece, buffer);
+                let code = P::Pixel::black().code();
+                lay(&Plain { code }, &self.scratch, piece, buffer);
                 Ok(())
             }
             Aim::White => {
-                let pixel: P::Pixel = Kind::white(self.over.size.maxval);
-                let plain = Plain { code: pixel.code() };
-                lay(&plain, &self.scratch, piece, buffer);
+                let code = P::Pixel::white(self.over.size.maxval).code();
+                lay(&Plain { code }, &self.scratch, piece, buffer);
                 Ok(())
             }
             Aim::Copy(carry) => draw_part(

@@ -59,7 +59,7 @@ returns-in-Black g c =
     let b = (g.P.Picture.model l.below).shown in
     record {
       laid = λ z. shows_drawn o b l.over.step l.over.size c.args.piece.whole c.args.piece.part _ _ _ l.stands
-          (λ i j k li lj q. ap (λ f. coded o (taken o b.maxval b.at f)) ((aims_as _ _ (formula c.args.self.now.over.step c.args.self.now.over.size.width c.args.self.now.over.size.height) _ _ c.args.piece.part c.in-Black.is c.in-Some.ensures) i j li lj) ∙ ap Some (sym (q ∙ c.code.ensures ∙ ap o.code c.black-pixel.ensures))) c.lay.ensures;
+          (λ i j k li lj q. ap (λ f. coded o (taken o b.maxval b.at f)) ((aims_as _ _ (formula c.args.self.now.over.step c.args.self.now.over.size.width c.args.self.now.over.size.height) _ _ c.args.piece.part c.in-Black.is c.in-Some.ensures) i j li lj) ∙ ap Some (sym (q ∙ c.code-code.ensures ∙ ap o.code c.black.ensures))) c.lay.ensures;
       spared = λ e z. let n : ◌≡◌ {A = ℕ} 0 1 = cc in absurd (omega arith);
       told = λ w h. tt;
       kept = kept-none o g.P.Picture.model g.P.Picture.count _ _ refl refl refl refl;
@@ -75,7 +75,7 @@ returns-in-White g c =
     record {
       laid = λ z. shows_drawn o b l.over.step l.over.size c.args.piece.whole c.args.piece.part _ _ _ l.stands
           (λ i j k li lj q. ap (λ f. coded o (taken o b.maxval b.at f)) ((aims_as _ _ (formula c.args.self.now.over.step c.args.self.now.over.size.width c.args.self.now.over.size.height) _ _ c.args.piece.part c.in-White.is c.in-Some.ensures) i j li lj)
-          ∙ ap Some (sym (q ∙ c.code-in-White.ensures ∙ ap o.code (c.white-pixel.ensures ∙ ap o.white l.stands.maxval)))) c.lay-in-White.ensures;
+          ∙ ap Some (sym (q ∙ c.code-code-in-White.ensures ∙ ap o.code (c.white.ensures ∙ ap o.white l.stands.maxval)))) c.lay-in-White.ensures;
       spared = λ e z. let n : ◌≡◌ {A = ℕ} 0 1 = cc in absurd (omega arith);
       told = λ w h. tt;
       kept = kept-none o g.P.Picture.model g.P.Picture.count _ _ refl refl refl refl;
