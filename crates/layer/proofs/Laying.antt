@@ -1,13 +1,11 @@
 -- Parts of a rectangle, laid one beside another.
-use Rattle.std.proofs.Common.{◌≡◌, ℕ, ◌+◌, ◌-◌, ◌*◌, ◌/◌, ◌%◌, ◌<◌, ◌≤◌, ◌⊎◌, List, ◌++◌, length, get_or, take, Some, sym, refl, ap, ◌∙◌, subst, ⊎_elim, arith, rules}
+use Rattle.std.proofs.Common.{◌≡◌, ℕ, ◌+◌, ◌-◌, ◌*◌, ◌/◌, ◌%◌, ◌<◌, ◌≤◌, ◌⊎◌, List, ◌++◌, length, get_or, take, sym, refl, ap, ◌∙◌, subst, ⊎_elim, arith, rules}
 use borrow.Rule.Slice.PartMut.{post_of, put_mid}
 use Rattle.std.proofs.lemmas.List.{get_or_append_left, get_or-append_right, get_or-drop, get_or-take, length-take-le}
 use Rattle.std.proofs.lemmas.Slice.{drop-put_mid}
 use Rattle.std.proofs.lemmas.Nat.{div-mul-add, mod-mul-add, mul-add-lt}
 use Rattle.picture.specs.declared.rect.Rect.{Rect}
-use Rattle.pixel.specs.Ops.{Ops}
-use Rattle.picture.specs.Images.{Image}
-use Rattle.picture.specs.Prepare.{area, coded}
+use Rattle.picture.specs.Prepare.{area}
 use Rattle.picture.specs.Region.{Within}
 use Rattle.layer.specs.Aims.{spot}
 use Rattle.layer.specs.Laid.{Among, Laid, Part}
