@@ -1,5 +1,5 @@
 -- What a prepare below says of a region that lies inside and has room.
-use Rattle.std.proofs.Common.{◌≡◌, ℕ, ◌<◌, ◌≤◌, true, List, ◌++◌, map, length, get_or, drop, is_some, Some, None, Ok, Err, Option, sym, refl, ap, ◌∙◌, arith}
+use Rattle.std.proofs.Common.{◌≡◌, ℕ, ◌<◌, ◌≤◌, true, List, ◌++◌, map, length, get_or, drop, is_some, Some, None, Err, Option, sym, refl, ap, ◌∙◌, arith}
 use Rattle.std.specs.List.{range_with_len}
 use Rattle.std.proofs.lemmas.List.{get_or_append_left}
 use Rattle.std.proofs.lemmas.List.FromFn.{get_or-map-range_with_len, length-map-range_with_len}
@@ -53,16 +53,7 @@ module _ {K S : Type 0} (o : Ops K S) where
   pub reads_pixel : ((p : K) → o.decode (o.code p) ≡ Some p) → (p : Place K) (c : ℕ) → coded o p ≡ Some c → or_black o.black (o.decode c) ≡ pixel_or o.black p
   reads_pixel d p c e = ap (or_black o.black) (reads_back d p c e)
 
-  coded-located : (p : Place K) (c : ℕ) → coded o p ≡ Some c → Ok c ≡ located o p
-  coded-located (pixel k) c e = let q : c ≡ o.code k = cc in ap Ok q
-  coded-located (hole f) c e = cc
-
-  -- a region of one place
-  pub single_shown : (i : Image K) (r : Rect) (codes : List ℕ) (k : ℕ) → area r ≡ 1 → k < area r → Shown o (nth i r) (area r) codes → Ok (get_or codes 0 0) ≡ located o (nth i r k)
-  single_shown i r codes k one h s =
-      let e : 0 ≡ k = omega arith in
-      coded-located (nth i r 0) (get_or codes 0 0) (s 0 (omega arith)) ∙ ap (λ z. located o (nth i r z)) e
-
+  -- the hole of a region of one place
   pub single_hole : (i : Image K) (r : Rect) (f : Fault) (k : ℕ) → area r ≡ 1 → k < area r → Err f ≡ first_in (nth i r) (area r) → Err f ≡ located o (nth i r k)
   single_hole i r f k one h e =
       let z : 0 ≡ k = omega arith in

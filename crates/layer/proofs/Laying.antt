@@ -1,13 +1,11 @@
 -- Parts of a rectangle, laid one beside another.
-use Rattle.std.proofs.Common.{◌≡◌, ℕ, ◌+◌, ◌-◌, ◌*◌, ◌/◌, ◌%◌, ◌<◌, ◌≤◌, ◌⊎◌, List, ◌++◌, length, get_or, take, Some, sym, refl, ap, ◌∙◌, subst, ⊎_elim, arith, rules}
+use Rattle.std.proofs.Common.{◌≡◌, ℕ, ◌+◌, ◌-◌, ◌*◌, ◌/◌, ◌%◌, ◌<◌, ◌≤◌, ◌⊎◌, List, ◌++◌, length, get_or, take, sym, refl, ap, ◌∙◌, subst, ⊎_elim, arith, rules}
 use borrow.Rule.Slice.PartMut.{post_of, put_mid}
 use Rattle.std.proofs.lemmas.List.{get_or_append_left, get_or-append_right, get_or-drop, get_or-take, length-take-le}
 use Rattle.std.proofs.lemmas.Slice.{drop-put_mid}
 use Rattle.std.proofs.lemmas.Nat.{div-mul-add, mod-mul-add, mul-add-lt}
 use Rattle.picture.specs.declared.rect.Rect.{Rect}
-use Rattle.pixel.specs.Ops.{Ops}
-use Rattle.picture.specs.Images.{Image}
-use Rattle.picture.specs.Prepare.{area, coded}
+use Rattle.picture.specs.Prepare.{area}
 use Rattle.picture.specs.Region.{Within}
 use Rattle.layer.specs.Aims.{spot}
 use Rattle.layer.specs.Laid.{Among, Laid, Part}
@@ -27,9 +25,6 @@ pub record Held (r : Rect) (x y w h : ℕ) : Type 0 where
 
 pub held_within : (r : Rect) (x y w h u v : ℕ) → Held r x y w h → Among x y w h u v → Within r u v
 held_within r x y w h u v k a = record { left = omega (arith, k.left, a.left); top = omega (arith, k.top, a.top); right = omega (arith, k.right, a.right); bottom = omega (arith, k.bottom, a.bottom) }
-
-pub laid_no_columns : (r : Rect) (x y h : ℕ) (P : Marks) (t : List ℕ) → Laid r x y 0 h P t t
-laid_no_columns r x y h P t = record { inside = λ u v a. absurd (omega (arith, a.left, a.right)); outside = λ u v i n. refl }
 
 pub laid_no_rows : (r : Rect) (x y w : ℕ) (P : Marks) (t : List ℕ) → Laid r x y w 0 P t t
 laid_no_rows r x y w P t = record { inside = λ u v a. absurd (omega (arith, a.top, a.bottom)); outside = λ u v i n. refl }
@@ -125,12 +120,5 @@ laid_above r x y w a b P t₀ t₁ t₂ k one two = record {
 pub laid_as : (r : Rect) (x y w h : ℕ) (P Q : Marks) (t₀ t₁ : List ℕ) → ((u v c : ℕ) → Among x y w h u v → P u v c → Q u v c) → Laid r x y w h P t₀ t₁ → Laid r x y w h Q t₀ t₁
 laid_as r x y w h P Q t₀ t₁ f l = record { inside = λ u v a. f u v _ a (l.inside u v a); outside = l.outside }
 
-pub laid_width : (r : Rect) (x y w n h : ℕ) (P : Marks) (t₀ t₁ : List ℕ) → w ≡ n → Laid r x y w h P t₀ t₁ → Laid r x y n h P t₀ t₁
-laid_width r x y w n h P t₀ t₁ e l = subst (λ (k : ℕ). Laid r x y k h P t₀ t₁) e l
-
 pub laid_height : (r : Rect) (x y w h n : ℕ) (P : Marks) (t₀ t₁ : List ℕ) → h ≡ n → Laid r x y w h P t₀ t₁ → Laid r x y w n P t₀ t₁
 laid_height r x y w h n P t₀ t₁ e l = subst (λ (k : ℕ). Laid r x y w k P t₀ t₁) e l
-
--- the same picture shows the same
-pub laid_view : {K S : Type 0} (o : Ops K S) (a b : Image K) (r : Rect) (x y w h : ℕ) (t₀ t₁ : List ℕ) → a ≡ b → Laid r x y w h (λ u v c. coded o (a.at u v) ≡ Some c) t₀ t₁ → Laid r x y w h (λ u v c. coded o (b.at u v) ≡ Some c) t₀ t₁
-laid_view {K = K} o a b r x y w h t₀ t₁ e l = subst (λ (i : Image K). Laid r x y w h (λ u v c. coded o (i.at u v) ≡ Some c) t₀ t₁) e l

@@ -94,8 +94,5 @@ told_as (Ok u) x y h t = tt
 told_as (Err Uncut) x y h t = t
 told_as (Err (Hole f)) x y h t = h f t
 
-pub told_drawn : {A : Type 0} (r : Result Unit Undrawn) (x : Result A Fault) → r ≡ Ok tt → Told r x
-told_drawn r x e = subst (λ (z : Result Unit Undrawn). Told z x) (sym e) tt
-
 pub told_hole : {A : Type 0} (r : Result Unit Undrawn) (f : Fault) (x : Result A Fault) → r ≡ Err (Hole f) → Err f ≡ x → Told r x
 told_hole r f x e h = subst (λ (z : Result Unit Undrawn). Told z x) (sym e) h

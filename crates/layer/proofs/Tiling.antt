@@ -55,9 +55,9 @@ needless_part φ p q k n i j li lj =
     (subst (λ (x : ℕ). Ground (φ x (p.top + (q.top - p.top + j)))) ex (n (q.left - p.left + i) (q.top - p.top + j) (omega (arith, k.left, k.right)) (omega (arith, k.top, k.bottom))))
 
 -- and so it does of the layer that was kept
-pub needless_kept : {P K S : Type 0} {g : _} {h : _} (o : Ops K S) (model : P → Model K) (count : P → ℕ) (l m : Layer P K S g h) (p : Rect) → Kept o model count l m → Needless (formula l.step l.size.width l.size.height) p → Needless (formula m.step m.size.width m.size.height) p
+pub needless_kept : {P K S : Type 0} {g : _} {h : _} (o : Ops K S) (model : P → Model K) (count : P → ℕ) (l m : Layer P K S g h) (p : Rect) → Kept o model count l m → Needless (formula l.over.step l.over.size.width l.over.size.height) p → Needless (formula m.over.step m.over.size.width m.over.size.height) p
 needless_kept o model count l m p k n =
-    subst (λ (z : Size). Needless (formula m.step z.width z.height) p) k.size (subst (λ (s : Step). Needless (formula s l.size.width l.size.height) p) k.step n)
+    subst (λ (z : Size). Needless (formula m.over.step z.width z.height) p) k.size (subst (λ (s : Step). Needless (formula s l.over.size.width l.over.size.height) p) k.step n)
 
 -- of the picture below or of the size that is kept
 pub needless_stood : {K : Type 0} (b : Image K) (s : Step) (z : Size) (p : Rect) → Stands b s z → Needless (formula s b.width b.height) p → Needless (formula s z.width z.height) p

@@ -28,7 +28,7 @@ located o (hole f) = Err f
 
 module _ {P K S : Type 0} {g : _} {h : _} (o : Ops K S) (model : P → Model K) where
   abbrev pub model_of : Layer P K S g h → Model K
-  model_of l = layered o l.step (model l.below)
+  model_of l = layered o l.over.step (model l.below)
 
   -- the step over the picture as it was, which no prepare has been made of; or the picture back, and why
   abbrev pub Made : P → Step → Result (Layer P K S g h) (Refused P) → Type 0
@@ -38,8 +38,8 @@ module _ {P K S : Type 0} {g : _} {h : _} (o : Ops K S) (model : P → Model K) 
   -- the second differs from the first only in what asking below may change
   pub record Kept (counted : P → ℕ) (l m : Layer P K S g h) : Type 0 where
     pub shows : model l.below ≡ model m.below
-    pub step : l.step ≡ m.step
-    pub size : l.size ≡ m.size
+    pub step : l.over.step ≡ m.over.step
+    pub size : l.over.size ≡ m.over.size
     pub count : l.count ≡ m.count
     pub times : ℕ
     pub asked : counted m.below ≡ raised times (counted l.below)

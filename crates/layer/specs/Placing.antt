@@ -79,13 +79,13 @@ raised_add zero k c = ap (λ z. raised z c) (sym (add-zero k))
 raised_add (suc n) k c = ap up (raised_add n k c) ∙ ap (λ z. raised z c) (sym (add-suc k n))
 
 module _ {P K S : Type 0} {g : _} {h : _} (o : Ops K S) (model : P → Model K) (count : P → ℕ) where
-  pub kept-none : (l m : Layer P K S g h) → l.below ≡ m.below → l.step ≡ m.step → l.size ≡ m.size → l.count ≡ m.count → Kept o model count l m
+  pub kept-none : (l m : Layer P K S g h) → l.below ≡ m.below → l.over.step ≡ m.over.step → l.over.size ≡ m.over.size → l.count ≡ m.count → Kept o model count l m
   kept-none l m b s z c = record { shows = ap model b; step = s; size = z; count = c; times = 0; asked = ap count (sym b) }
 
-  pub kept_one : (l m : Layer P K S g h) → model m.below ≡ model l.below → count m.below ≡ up (count l.below) → l.step ≡ m.step → l.size ≡ m.size → l.count ≡ m.count → Kept o model count l m
+  pub kept_one : (l m : Layer P K S g h) → model m.below ≡ model l.below → count m.below ≡ up (count l.below) → l.over.step ≡ m.over.step → l.over.size ≡ m.over.size → l.count ≡ m.count → Kept o model count l m
   kept_one l m e a s z c = record { shows = sym e; step = s; size = z; count = c; times = 1; asked = a }
 
-  pub kept_times : (l m : Layer P K S g h) → model m.below ≡ model l.below → ((n : ℕ) × (count m.below ≡ raised n (count l.below))) → l.step ≡ m.step → l.size ≡ m.size → l.count ≡ m.count → Kept o model count l m
+  pub kept_times : (l m : Layer P K S g h) → model m.below ≡ model l.below → ((n : ℕ) × (count m.below ≡ raised n (count l.below))) → l.over.step ≡ m.over.step → l.over.size ≡ m.over.size → l.count ≡ m.count → Kept o model count l m
   kept_times l m e a s z c = record { shows = sym e; step = s; size = z; count = c; times = a.0; asked = a.1 }
 
   pub kept_follows : (l m n : Layer P K S g h) → Kept o model count l m → Kept o model count m n → Kept o model count l n
@@ -99,4 +99,4 @@ module _ {P K S : Type 0} {g : _} {h : _} (o : Ops K S) (model : P → Model K) 
   }
 
   pub kept_shows : (l m : Layer P K S g h) → Kept o model count l m → model_of o model l ≡ model_of o model m
-  kept_shows l m k = ap (λ s. layered o s (model l.below)) k.step ∙ ap (layered o m.step) k.shows
+  kept_shows l m k = ap (λ s. layered o s (model l.below)) k.step ∙ ap (layered o m.over.step) k.shows

@@ -1,10 +1,11 @@
 ghost use Rattle.std.specs.Prelude.{◌≡◌, ◌+◌, ◌-◌, ◌*◌, ◌<◌, ◌≤◌, true, pos, ◌-ℤ◌, unsigned_abs};
 ghost use Rattle.picture.specs.Limits.{largest};
-ghost use Rattle.picture.specs.Steps.{allowed, embedded, factor, fitting, formula, height_of, width_of};
+ghost use Rattle.picture.specs.Steps.{embedded, factor, formula, height_of, width_of};
 ghost use Rattle.layer.specs.Aims.{Aims, Boxes, Copies, Flips, Turns, Windows};
 ghost use Rattle.layer.specs.Spreads.{beside};
 
 use crate::aim::{Aim, Carry, Lens};
+use crate::over::Over;
 use crate::spread::Spread;
 use crate::spreads::{reach, spread};
 use picture::{Axis, Ground, Rect, Size, Step, Turn};
@@ -202,24 +203,25 @@ fn placed(x: i32, y: i32, fill: Ground, size: Size, part: Rect) -> Option<Aim>
     }))
 }
 
-/// What of the picture below makes a part of a layer: the formulas of the steps. Nothing, if the part lies across an edge.
-pub(crate) fn aim(step: Step, size: Size, part: Rect) -> Option<Aim>
-    requires allowed { allowed step ≡ true }
-    requires fits { fitting step size.width size.height ≡ true }
-    requires across { part.left + part.width ≤ width_of step size.width size.height }
-    requires down { part.top + part.height ≤ height_of step size.width size.height }
-    ensures { Aims result (formula step size.width size.height) size.width size.height part }
-{
-    let aim = match step {
-        Step::Same => Aim::Copy(straight(0, 0, part)),
-        Step::Crop { left, top, .. } => Aim::Copy(straight(left, top, part)),
-        Step::Embed { x, y, ground, .. } => {
-            return placed(x, y, Ground::or_default(ground), size, part);
-        }
-        Step::Flip(axis) => Aim::Copy(flipped(axis, size, part)),
-        Step::Rot(turn) => Aim::Copy(turned(turn, size, part)),
-        Step::Shrink { across, down } => Aim::Mean(boxes(across, down, part)),
-        Step::Conv(mask) => Aim::Masked(masked(size, part), mask),
-    };
-    Some(aim)
+impl Over {
+    /// What of the picture below makes a part: the formulas of the steps. Nothing, if the part lies across an edge.
+    pub fn aim(self, part: Rect) -> Option<Aim>
+        requires across { part.left + part.width ≤ width_of self.step self.size.width self.size.height }
+        requires down { part.top + part.height ≤ height_of self.step self.size.width self.size.height }
+        ensures { Aims result (formula self.step self.size.width self.size.height) self.size.width self.size.height part }
+    {
+        let size = self.size;
+        let aim = match self.step {
+            Step::Same => Aim::Copy(straight(0, 0, part)),
+            Step::Crop { left, top, .. } => Aim::Copy(straight(left, top, part)),
+            Step::Embed { x, y, ground, .. } => {
+                return placed(x, y, Ground::or_default(ground), size, part);
+            }
+            Step::Flip(axis) => Aim::Copy(flipped(axis, size, part)),
+            Step::Rot(turn) => Aim::Copy(turned(turn, size, part)),
+            Step::Shrink { across, down } => Aim::Mean(boxes(across, down, part)),
+            Step::Conv(mask) => Aim::Masked(masked(size, part), mask),
+        };
+        Some(aim)
+    }
 }

@@ -1,11 +1,11 @@
 ghost use Rattle.std.specs.Prelude.{◌≡◌, ◌+◌, ◌<◌, ◌≤◌, true, Some, unsigned_abs};
 ghost use Rattle.picture.specs.Limits.{largest};
-ghost use Rattle.picture.specs.Steps.{allowed};
 ghost use Rattle.layer.specs.Cuts.{Cuts, Halves, Smaller, Within};
 
 use crate::cut::Cut;
 use crate::layer::ROOM;
-use picture::{Rect, Size, Step};
+use crate::over::Over;
+use picture::{Rect, Step};
 
 /// The first edge of what an embedding holds that lies among `count` places from `from` on.
 fn edge(from: u32, count: u32, offset: i32, side: u32) -> Option<u32>
@@ -25,18 +25,6 @@ fn edge(from: u32, count: u32, offset: i32, side: u32) -> Option<u32>
     }
 }
 
-/// How many places below a part needs, about.
-fn needs(step: Step, part: Rect) -> u64
-    requires { allowed step ≡ true }
-{
-    let (wide, high) = match step {
-        Step::Shrink { across, down } => (part.width * across, part.height * down),
-        Step::Conv(_) => (part.width + 2, part.height + 2),
-        _ => (part.width, part.height),
-    };
-    wide as u64 * high as u64
-}
-
 /// Halves the longer side of a part, unless it is a single place.
 fn halved(part: Rect) -> Option<Cut>
     ensures { Cuts result part }
@@ -50,23 +38,34 @@ fn halved(part: Rect) -> Option<Cut>
     }
 }
 
-/// Cuts a part at the edges of what an embedding holds, and in halves where it needs more than there is room for.
-pub(crate) fn cut(step: Step, size: Size, part: Rect) -> Option<Cut>
-    requires { allowed step ≡ true }
-    ensures { Cuts result part }
-{
-    if let Step::Embed { x, y, .. } = step {
-        if let Some(n) = edge(part.left, part.width, x, size.width) {
-            return Some(Cut::Across(n));
-        }
-        if let Some(n) = edge(part.top, part.height, y, size.height) {
-            return Some(Cut::Down(n));
-        }
+impl Over {
+    /// How many places below a part needs, about.
+    fn needs(self, part: Rect) -> u64 {
+        let (wide, high) = match self.step {
+            Step::Shrink { across, down } => (part.width * across, part.height * down),
+            Step::Conv(_) => (part.width + 2, part.height + 2),
+            _ => (part.width, part.height),
+        };
+        wide as u64 * high as u64
     }
-    if needs(step, part) > ROOM as u64 {
-        halved(part)
-    } else {
-        None
+
+    /// Cuts a part at the edges of what an embedding holds, and in halves where it needs more than there is room for.
+    pub fn cut(self, part: Rect) -> Option<Cut>
+        ensures { Cuts result part }
+    {
+        if let Step::Embed { x, y, .. } = self.step {
+            if let Some(n) = edge(part.left, part.width, x, self.size.width) {
+                return Some(Cut::Across(n));
+            }
+            if let Some(n) = edge(part.top, part.height, y, self.size.height) {
+                return Some(Cut::Down(n));
+            }
+        }
+        if self.needs(part) > ROOM as u64 {
+            halved(part)
+        } else {
+            None
+        }
     }
 }
 

@@ -6,7 +6,7 @@ ghost use Rattle.layer.specs.Aims.{Readable, Steady, lens_pixel, walked};
 ghost use Rattle.layer.specs.Laid.{Laid};
 
 use crate::aim::Carry;
-use crate::blended::Blended;
+use crate::mix::Blended;
 use crate::piece::Piece;
 use crate::weights::Weights;
 use pixel::Kind;

@@ -1,6 +1,7 @@
 ghost use Rattle.layer.specs.Standing.{Stands};
 
-use picture::{Picture, Size, Step};
+use crate::over::Over;
+use picture::Picture;
 
 /// How many codes of the picture below are held at a time: as many as a sum takes.
 pub(crate) const ROOM: usize = 4096;
@@ -9,10 +10,9 @@ pub(crate) const ROOM: usize = 4096;
 #[derive(Drop)]
 pub struct Layer<P: Picture> {
     pub(crate) below: P,
-    pub(crate) step: Step,
-    pub(crate) size: Size,
+    pub(crate) over: Over,
     pub(crate) count: u64,
     pub(crate) scratch: [u64; ROOM],
     // the size is that of the picture below, and the step can stand over it
-    ghost stands: { Stands (P.model below).shown step size },
+    ghost stands: { Stands (P.model below).shown over.step over.size },
 }

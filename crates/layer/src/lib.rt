@@ -5,7 +5,6 @@
 mod aim;
 mod aims;
 mod ask;
-mod blended;
 mod cut;
 mod cuts;
 mod draws;
@@ -14,9 +13,9 @@ mod layer;
 mod making;
 mod masks;
 mod mix;
+mod over;
 mod parts;
 mod piece;
-mod pieces;
 mod places;
 mod showing;
 mod spread;

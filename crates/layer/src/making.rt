@@ -3,6 +3,7 @@ ghost use Rattle.picture.specs.Steps.{allowed, fitting, height_of, width_of};
 ghost use Rattle.layer.specs.Layers.{Made};
 
 use crate::layer::{Layer, ROOM};
+use crate::over::Over;
 use picture::{LIMIT, Picture, Refusal, Refused, Size, Step};
 use pixel::Kind;
 
@@ -63,24 +64,25 @@ fn is_fitting(step: Step, size: Size) -> bool
     }
 }
 
-/// The size of what the step shows over a picture of this size.
-pub(crate) fn size_over(step: Step, size: Size) -> Size
-    requires allowed { allowed step ≡ true }
-    requires fits { fitting step size.width size.height ≡ true }
-    ensures width { result.width ≡ width_of step size.width size.height }
-    ensures height { result.height ≡ height_of step size.width size.height }
-    ensures maxval { result.maxval ≡ size.maxval }
-{
-    let (width, height) = match step {
-        Step::Crop { width, height, .. } | Step::Embed { width, height, .. } => (width, height),
-        Step::Shrink { across, down } => (size.width / across, size.height / down),
-        Step::Rot(_) => (size.height, size.width),
-        Step::Same | Step::Flip(_) | Step::Conv(_) => (size.width, size.height),
-    };
-    Size {
-        width,
-        height,
-        maxval: size.maxval,
+impl Over {
+    /// The size of what the step shows.
+    pub fn shown(self) -> Size
+        ensures width { result.width ≡ width_of self.step self.size.width self.size.height }
+        ensures height { result.height ≡ height_of self.step self.size.width self.size.height }
+        ensures maxval { result.maxval ≡ self.size.maxval }
+    {
+        let size = self.size;
+        let (width, height) = match self.step {
+            Step::Crop { width, height, .. } | Step::Embed { width, height, .. } => (width, height),
+            Step::Shrink { across, down } => (size.width / across, size.height / down),
+            Step::Rot(_) => (size.height, size.width),
+            Step::Same | Step::Flip(_) | Step::Conv(_) => (size.width, size.height),
+        };
+        Size {
+            width,
+            height,
+            maxval: size.maxval,
+        }
     }
 }
 
@@ -104,8 +106,7 @@ impl<P: Picture> Layer<P> {
         }
         Ok(Layer {
             below,
-            step,
-            size,
+            over: Over { step, size },
             count: 0,
             scratch: [0; ROOM],
         })

@@ -3,9 +3,19 @@ ghost use Rattle.picture.specs.Compose.{summed};
 ghost use Rattle.layer.specs.Aims.{Readable, lens_pixel};
 ghost use Rattle.layer.specs.Sums.{downward};
 
-use crate::blended::Blended;
-use crate::weights::Weights;
+use crate::aim::Lens;
+use crate::weights::{Filter, Weights};
 use pixel::Kind;
+use std::marker::PhantomData;
+
+/// Each place is a window through this filter.
+#[derive(Drop)]
+pub(crate) struct Blended<K, W: Weights> {
+    pub lens: Lens,
+    pub filter: Filter<W>,
+    pub maxval: u16,
+    pub kind: PhantomData<K>,
+}
 
 impl<K: Kind, W: Weights> Blended<K, W> {
     /// A sum with column `q` of the window at (i, j).
@@ -21,7 +31,7 @@ impl<K: Kind, W: Weights> Blended<K, W> {
             .saturating_sub(lens.before)
             .min(lens.at.width - 1) as usize;
         let mut sum = sum;
-        // by row, since places of the window beyond the region are those at its rim
+        // by index, since a place of the window beyond the region is the one at its rim
         for r in 0..lens.rows {
             let row = (j * lens.down + r)
                 .saturating_sub(lens.above)

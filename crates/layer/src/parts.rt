@@ -8,12 +8,11 @@ ghost use Rattle.layer.specs.Layers.{Kept, located, model_of, raised};
 ghost use Rattle.layer.specs.Told.{Told};
 
 use crate::aim::{Aim, Lens};
-use crate::aims::aim;
 use crate::ask::ask;
-use crate::blended::Blended;
 use crate::draws::{Draw, Plain, lay};
 use crate::layer::Layer;
 use crate::masks::of_mask;
+use crate::mix::Blended;
 use crate::piece::Piece;
 use crate::undrawn::Undrawn;
 use crate::weights::{Filter, Ones, Weights};
@@ -56,7 +55,7 @@ impl<P: Picture> Layer<P> {
         piece: Piece,
         buffer: &mut [u64],
     ) -> Result<(), Undrawn>
-        requires inside { Inside lens.at self.old.size.width self.old.size.height }
+        requires inside { Inside lens.at self.old.over.size.width self.old.over.size.height }
         requires fair { Fair lens piece.part }
         requires room { length buffer.old ≡ area piece.whole }
         ensures laid { result ≡ Ok tt → Laid piece.whole piece.part.left piece.part.top piece.part.width piece.part.height (λ u v c. (φ : Formula) → Mixed lens (W.weighs filter.weights) filter.scale filter.offset (u - piece.part.left) (v - piece.part.top) φ → coded P.Pixel.ops (taken P.Pixel.ops (P.model self.old.below).shown.maxval (P.model self.old.below).shown.at φ) ≡ Some c) buffer.old buffer.new }
@@ -67,7 +66,7 @@ impl<P: Picture> Layer<P> {
         let blended: Blended<P::Pixel, W> = Blended {
             lens,
             filter,
-            maxval: self.size.maxval,
+            maxval: self.over.size.maxval,
             kind: PhantomData,
         };
         draw_part(
@@ -88,23 +87,21 @@ impl<P: Picture> Layer<P> {
         ensures spared { (e : Undrawn) → result ≡ Err e → buffer.new ≡ buffer.old }
         ensures told { piece.part.width ≡ 1 → piece.part.height ≡ 1 → Told result (located P.Pixel.ops ((model_of P.Pixel.ops P.model self.old).shown.at piece.part.left piece.part.top)) }
         ensures kept { Kept P.Pixel.ops P.model P.count self.old self.new }
-        ensures drawn { Needless (formula self.old.step self.old.size.width self.old.size.height) piece.part → result ≡ Ok tt }
-        ensures quiet { Needless (formula self.old.step self.old.size.width self.old.size.height) piece.part → P.count self.new.below ≡ P.count self.old.below }
+        ensures drawn { Needless (formula self.old.over.step self.old.over.size.width self.old.over.size.height) piece.part → result ≡ Ok tt }
+        ensures quiet { Needless (formula self.old.over.step self.old.over.size.width self.old.over.size.height) piece.part → P.count self.new.below ≡ P.count self.old.below }
     {
-        let Some(aim) = aim(self.step, self.size, piece.part) else {
+        let Some(aim) = self.over.aim(piece.part) else {
             return Err(Undrawn::Uncut);
         };
         match aim {
             Aim::Black => {
-                let pixel: P::Pixel = Kind::black();
-                let plain = Plain { code: pixel.code() };
-                lay(&plain, &self.scratch, piece, buffer);
+                let code = P::Pixel::black().code();
+                lay(&Plain { code }, &self.scratch, piece, buffer);
                 Ok(())
             }
             Aim::White => {
-                let pixel: P::Pixel = Kind::white(self.size.maxval);
-                let plain = Plain { code: pixel.code() };
-                lay(&plain, &self.scratch, piece, buffer);
+                let code = P::Pixel::white(self.over.size.maxval).code();
+                lay(&Plain { code }, &self.scratch, piece, buffer);
                 Ok(())
             }
             Aim::Copy(carry) => draw_part(

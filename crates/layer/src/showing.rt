@@ -9,7 +9,6 @@ ghost use Rattle.layer.specs.Placing.{kept-none, kept_follows, kept_shows, stood
 ghost use Rattle.layer.specs.Bounding.{sized_step, bounded_step, composed-step};
 
 use crate::layer::Layer;
-use crate::making::size_over;
 use crate::piece::Piece;
 use picture::{Fault, Picture, Rect, Refusal, Rows, Size, serve};
 use pixel::Kind;
@@ -39,10 +38,10 @@ impl<P: Picture> Layer<P> {
     /// A prepare that also says how often it asks the picture below.
     pub fn prepare_counted(&mut self, rect: Rect, buffer: &mut [u64]) -> Result<(), Refusal>
         ensures prepared { Prepared P.Pixel.ops (model_of P.Pixel.ops P.model) (λ l. l.count) self.old rect buffer.old result self.new buffer.new }
-        ensures asked { Asked (formula self.old.step (P.model self.old.below).shown.width (P.model self.old.below).shown.height) rect (outcome result) (P.count self.old.below) (P.count self.new.below) }
+        ensures asked { Asked (formula self.old.over.step (P.model self.old.below).shown.width (P.model self.old.below).shown.height) rect (outcome result) (P.count self.old.below) (P.count self.new.below) }
     {
         self.count = self.count.saturating_add(1);
-        let size = size_over(self.step, self.size);
+        let size = self.over.shown();
         if rect.left + rect.width > size.width || rect.top + rect.height > size.height {
             return Err(Refusal::NotInside);
         }
@@ -72,17 +71,17 @@ impl<P: Picture> Picture for Layer<P> {
 
     ghost sized = { λ l.
         let b = (P.model l.below).shown in
-        sized_step P.Pixel.ops l.step b (P.sized l.below) l.stands.allowed (stood_fits b l.step l.size l.stands) };
+        sized_step P.Pixel.ops l.over.step b (P.sized l.below) l.stands.allowed (stood_fits b l.over.step l.over.size l.stands) };
 
     ghost bounded = { λ l.
         let b = (P.model l.below).shown in
-        bounded_step P.Pixel.ops l.step b (P.sized l.below) (P.bounded l.below)
-        P.Pixel.blacks P.Pixel.whites P.Pixel.limits l.stands.allowed (stood_fits b l.step l.size l.stands) };
+        bounded_step P.Pixel.ops l.over.step b (P.sized l.below) (P.bounded l.below)
+        P.Pixel.blacks P.Pixel.whites P.Pixel.limits l.stands.allowed (stood_fits b l.over.step l.over.size l.stands) };
 
-    ghost composed = { λ l. composed-step P.Pixel.ops l.step (P.model l.below) (P.composed l.below) };
+    ghost composed = { λ l. composed-step P.Pixel.ops l.over.step (P.model l.below) (P.composed l.below) };
 
     fn size(&self) -> Size {
-        size_over(self.step, self.size)
+        self.over.shown()
     }
 
     fn prepare(&mut self, rect: Rect, buffer: &mut [u64]) -> Result<(), Refusal> {

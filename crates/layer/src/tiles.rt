@@ -5,7 +5,6 @@ ghost use Rattle.layer.specs.Aims.{Inside, Needless};
 ghost use Rattle.layer.specs.Laid.{Shows};
 ghost use Rattle.layer.specs.Layers.{Kept, model_of};
 
-use crate::cuts::cut;
 use crate::layer::Layer;
 use crate::piece::Piece;
 use picture::{Fault, Picture, Rows};
@@ -34,11 +33,11 @@ impl<P: Picture> Layer<P> {
         requires room { length buffer.old ≡ area piece.whole }
         ensures laid { result ≡ Ok tt → Shows P.Pixel.ops (model_of P.Pixel.ops P.model self.old).shown piece.whole piece.part buffer.old buffer.new }
         ensures kept { Kept P.Pixel.ops P.model P.count self.old self.new }
-        ensures drawn { Needless (formula self.old.step self.old.size.width self.old.size.height) piece.part → result ≡ Ok tt }
-        ensures quiet { Needless (formula self.old.step self.old.size.width self.old.size.height) piece.part → P.count self.new.below ≡ P.count self.old.below }
+        ensures drawn { Needless (formula self.old.over.step self.old.over.size.width self.old.over.size.height) piece.part → result ≡ Ok tt }
+        ensures quiet { Needless (formula self.old.over.step self.old.over.size.width self.old.over.size.height) piece.part → P.count self.new.below ≡ P.count self.old.below }
     {
         let Piece { whole, part, .. } = piece;
-        if let Some(cut) = cut(self.step, self.size, part) {
+        if let Some(cut) = self.over.cut(part) {
             let (near, far) = cut.halves(part);
             self.tile(Piece { whole, part: near }, buffer)?;
             return self.tile(Piece { whole, part: far }, buffer);

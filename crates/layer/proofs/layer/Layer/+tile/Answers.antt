@@ -9,7 +9,7 @@ pub returns-in_err-tile : goal.returns-in_err-tile
 returns-in_err-tile g t c =
     let y = (err_from_is_err_and c.from_residual.result c.from_residual.ensures.1).1 in
     let l = c.args.self.now in
-    let near = needless_part (formula l.step l.size.width l.size.height) c.args.piece.part c.halves.result.0 c.halves.ensures.smaller.near in
+    let near = needless_part (formula l.over.step l.over.size.width l.over.size.height) c.args.piece.part c.halves.result.0 c.halves.ensures.smaller.near in
     record {
       laid = λ z. let e : ⊥ = cc in absurd e;
       kept = c.tile.ensures.kept;
@@ -27,7 +27,7 @@ returns-in-Some g t c =
     let s = c.halves.ensures.smaller in
     let near = c.halves.result.0 in
     let far = c.halves.result.1 in
-    let φ = formula l.step l.size.width l.size.height in
+    let φ = formula l.over.step l.over.size.width l.over.size.height in
     let k = c.tile.ensures.kept in
     record {
       laid = λ z.

@@ -15,7 +15,7 @@ draw_part-requires g c =
     let b = (g.P.Picture.model l.below).shown in
     let p = c.args.piece.part in
     record {
-      inside = stood_inside b l.step l.size c.args.lens.at l.stands c.requires.inside;
+      inside = stood_inside b l.over.step l.over.size c.args.lens.at l.stands c.requires.inside;
       can = λ codes h s i j li lj. can_read g.P.Pixel.Kind.ops b g.met.P.Pixel.Kind.decodes c.args.lens codes i j c.requires.fair.few (omega (arith, p.across)) (omega (arith, p.down)) h s;
       room = c.requires.room;
     }

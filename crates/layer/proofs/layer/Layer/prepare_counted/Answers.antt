@@ -20,14 +20,14 @@ returns-then-rect-size g c =
     let b = (model l.below).shown in
     let i = (model_of o model l).shown in
     let r = c.args.rect in
-    let w = stood_wide b l.step l.size l.stands in
-    let h = stood_high b l.step l.size l.stands in
+    let w = stood_wide b l.over.step l.over.size l.stands in
+    let h = stood_high b l.over.step l.over.size l.stands in
     let up_one : c.saturating_add-self.result ≡ up l.count = search rules in
     let t = c.args.buffer.now in
     let s : (refused 10 [] ≡ answer i r (length t)) × (t ≡ filled o i r t) =
     elim c.then-rect-size.branch [
-      | then-rect-size-via-then-rect-size q ↦ refused_across o i r t (omega (arith, q.if-rect-size.true, c.size_over-size.ensures.width))
-      | then-rect-size-via-else-rect-size+then-rect-size-2 q ↦ refused_down o i r t (omega (arith, q.if-rect-size-2.true, c.size_over-size.ensures.height))
+      | then-rect-size-via-then-rect-size q ↦ refused_across o i r t (omega (arith, q.if-rect-size.true, c.shown-size.ensures.width))
+      | then-rect-size-via-else-rect-size+then-rect-size-2 q ↦ refused_down o i r t (omega (arith, q.if-rect-size-2.true, c.shown-size.ensures.height))
     ] in
     record {
       prepared = record { answers = s.0; fills = s.1; counts = up_one; keeps = refl };
@@ -42,10 +42,10 @@ returns-then-n-buffer g c =
     let b = (model l.below).shown in
     let i = (model_of o model l).shown in
     let r = c.args.rect in
-    let w = stood_wide b l.step l.size l.stands in
-    let h = stood_high b l.step l.size l.stands in
+    let w = stood_wide b l.over.step l.over.size l.stands in
+    let h = stood_high b l.over.step l.over.size l.stands in
     let up_one : c.saturating_add-self.result ≡ up l.count = search rules in
-    let s = refused_short o i r c.args.buffer.now (omega (arith, c.size_over-size.ensures.width)) (omega (arith, c.size_over-size.ensures.height)) (omega (arith, c.area-n.ensures)) in
+    let s = refused_short o i r c.args.buffer.now (omega (arith, c.shown-size.ensures.width)) (omega (arith, c.shown-size.ensures.height)) (omega (arith, c.area-n.ensures)) in
     record {
       prepared = record { answers = s.0; fills = s.1; counts = up_one; keeps = refl };
       asked = record { times = 0; counts = refl; grows = λ e. omega arith; outside = λ e. refl; short = λ e. refl; needless = λ e. refl };
@@ -62,8 +62,8 @@ returns-then-is_ok g c =
     let r = c.args.rect in
     let t = c.args.buffer.now in
     let k = c.tile.ensures.kept in
-    let x : r.left + r.width ≤ i.width = omega (arith, c.size_over-size.ensures.width, stood_wide b l.step l.size l.stands) in
-    let y : r.top + r.height ≤ i.height = omega (arith, c.size_over-size.ensures.height, stood_high b l.step l.size l.stands) in
+    let x : r.left + r.width ≤ i.width = omega (arith, c.shown-size.ensures.width, stood_wide b l.over.step l.over.size l.stands) in
+    let y : r.top + r.height ≤ i.height = omega (arith, c.shown-size.ensures.height, stood_high b l.over.step l.over.size l.stands) in
     let n : length c.tile.new.buffer ≡ c.area-n.result = c.tile.auto.buffer ∙ length-take-le c.area-n.result t c.if-n-buffer.false in
     let s = served_pieces o i r _ t c.tile.new.buffer c.area-n.result x y c.area-n.ensures c.if-n-buffer.false n (c.tile.ensures.laid (ok_of _ (sym c.is_ok.ensures.value ∙ c.if-is_ok.true))) in
     let up_one : c.saturating_add-self.result ≡ up l.count = search rules in
@@ -75,7 +75,7 @@ returns-then-is_ok g c =
         grows = never_falls k.times _ _ k.asked;
         outside = λ e. let n : ⊥ = cc in absurd n;
         short = λ e. let n : ⊥ = cc in absurd n;
-        needless = λ n. c.tile.ensures.quiet (needless_stood b l.step l.size r l.stands n);
+        needless = λ n. c.tile.ensures.quiet (needless_stood b l.over.step l.over.size r l.stands n);
       };
     }
 
@@ -90,8 +90,8 @@ returns g c =
     let r = c.args.rect in
     let t = c.args.buffer.now in
     let k = c.tile.ensures.kept in
-    let x : r.left + r.width ≤ i.width = omega (arith, c.size_over-size.ensures.width, stood_wide b l.step l.size l.stands) in
-    let y : r.top + r.height ≤ i.height = omega (arith, c.size_over-size.ensures.height, stood_high b l.step l.size l.stands) in
+    let x : r.left + r.width ≤ i.width = omega (arith, c.shown-size.ensures.width, stood_wide b l.over.step l.over.size l.stands) in
+    let y : r.top + r.height ≤ i.height = omega (arith, c.shown-size.ensures.height, stood_high b l.over.step l.over.size l.stands) in
     let z : area r ≤ length t = omega (arith, c.area-n.ensures) in
     let n : length c.tile.new.buffer ≡ c.area-n.result = c.tile.auto.buffer ∙ length-take-le c.area-n.result t c.if-n-buffer.false in
     let d = same_rest t c.tile.new.buffer c.area-n.result (area r) c.area-n.ensures c.if-n-buffer.false n in
@@ -108,6 +108,6 @@ returns g c =
         grows = never_falls j.times _ _ j.asked;
         outside = λ e. absurd (holed_not (first_fault (nth i r) (area r)) 10 (omega arith) (sym told ∙ e));
         short = λ e. absurd (holed_not (first_fault (nth i r) (area r)) 11 (omega arith) (sym told ∙ e));
-        needless = λ n. let w = ap is_ok (sym (c.tile.ensures.drawn (needless_stood b l.step l.size r l.stands n))) ∙ sym c.is_ok.ensures.value ∙ c.if-is_ok.false in let e : ⊥ = cc in absurd e;
+        needless = λ n. let w = ap is_ok (sym (c.tile.ensures.drawn (needless_stood b l.over.step l.over.size r l.stands n))) ∙ sym c.is_ok.ensures.value ∙ c.if-is_ok.false in let e : ⊥ = cc in absurd e;
       };
     }

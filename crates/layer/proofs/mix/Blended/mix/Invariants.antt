@@ -1,7 +1,7 @@
 use Rattle.std.proofs.Common.{◌≡◌}
 use Rattle.layer.specs.Aims.{lens_pixel}
 use Rattle.layer.specs.Sums.{columned}
-use Rattle.layer.proofs.blended.Blended.mix.Given as goal
+use Rattle.layer.proofs.mix.Blended.mix.Given as goal
 
 abbrev pub invariant-loop-q : goal.invariant-loop-q
 invariant-loop-q g l =

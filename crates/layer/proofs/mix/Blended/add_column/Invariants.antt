@@ -1,7 +1,7 @@
 use Rattle.std.proofs.Common.{◌≡◌}
 use Rattle.layer.specs.Aims.{lens_pixel}
 use Rattle.layer.specs.Sums.{downward}
-use Rattle.layer.proofs.blended.Blended.add_column.Given as goal
+use Rattle.layer.proofs.mix.Blended.add_column.Given as goal
 
 abbrev pub invariant-loop-r : goal.invariant-loop-r
 invariant-loop-r g l =

@@ -3,7 +3,7 @@ use Rattle.picture.proofs.Serving.{row_end}
 use Rattle.layer.specs.Aims.{lens_pixel}
 use Rattle.layer.specs.Sums.{downward, columned}
 use Rattle.layer.proofs.Summing.{by_columns, columned_more, held_columns}
-use Rattle.layer.proofs.blended.Blended.mix.Goals as goal
+use Rattle.layer.proofs.mix.Blended.mix.Goals as goal
 
 pub add_column-sum-requires : goal.add_column-sum-requires
 add_column-sum-requires g c =

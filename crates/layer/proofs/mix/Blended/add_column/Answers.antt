@@ -3,7 +3,7 @@ use Rattle.layer.specs.Aims.{lens_column, lens_row, lens_pixel, lens_spot}
 use Rattle.layer.specs.Sums.{downward}
 use Rattle.layer.proofs.Reading.{index-inside, spot_at}
 use Rattle.layer.proofs.Summing.{downward_more, held_down, or_black_is}
-use Rattle.layer.proofs.blended.Blended.add_column.Goals as goal
+use Rattle.layer.proofs.mix.Blended.add_column.Goals as goal
 
 -- where the code stands
 index : (g : _) (c : goal.After-decode g) → c.min-row.result * c.args.self.now.lens.at.width + c.min-column.result ≡ lens_row c.args.self.now.lens c.args.j c.loop-r.r * c.args.self.now.lens.at.width + lens_column c.args.self.now.lens c.args.i c.args.q
