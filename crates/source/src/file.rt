@@ -37,7 +37,7 @@ struct Load {
     lack: Option<Cause>,
 }
 
-/// Not a `From`, since both types are of other crates.
+// No `From<Lack> for Cause`: both types are of other crates.
 fn cause_of(lack: Lack) -> Cause
     ensures { result ≡ lack_cause lack }
 {
