@@ -37,7 +37,7 @@ struct Load {
     lack: Option<Cause>,
 }
 
-/// Not a `From`, since both types are of other crates.
+// No `From<Lack> for Cause`: both types are of other crates.
 fn cause_of(lack: Lack) -> Cause
     ensures { result ≡ lack_cause lack }
 {
@@ -126,7 +126,7 @@ impl<S: Store, K: Kind> Rows for FileSource<S, K> {
     ghost shows = { Prim.search rules };
 
     fn row(&mut self, left: u32, row: u32, out: &mut [u64]) -> Result<(), Fault> {
-        // By index: a proof would not know what is written to the parts that `chunks_mut` lends.
+        // By index: `chunks_mut` was tried, and of `out` a proof then knows no more than its length.
         for i in 0..out.len().div_ceil(RUN) {
             let from = i * RUN;
             let end = out.len().min(from + RUN);
