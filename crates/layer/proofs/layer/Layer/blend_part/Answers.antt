@@ -5,8 +5,13 @@ use Rattle.layer.specs.Aims.{lens_pixel}
 use Rattle.layer.specs.Layers.{located}
 use Rattle.layer.proofs.Laying.{laid_as}
 use Rattle.layer.proofs.Mixing.{mixed_hole}
-use Rattle.layer.proofs.Parting.{coded-mixed, lone_area, told_as}
+use Rattle.layer.proofs.Parting.{can_read, coded-mixed, lone_area, told_as}
 use Rattle.layer.proofs.layer.Layer.blend_part.Goals as goal
+
+pub draw_part-requires-clause-can : goal.draw_part-requires-clause-can
+draw_part-requires-clause-can g c codes h s i j li lj =
+    let p = c.args.piece.part in
+    can_read g.P.Pixel.Kind.ops (g.P.Picture.model c.args.self.now.below).shown g.met.P.Pixel.Kind.decodes c.args.lens codes i j c.requires.fair.few (omega (arith, p.across)) (omega (arith, p.down)) h s
 
 pub returns-clause-laid : goal.returns-clause-laid
 returns-clause-laid g c z =
