@@ -1,18 +1,19 @@
 -- A part of a step, by the ways that make it.
-use Rattle.std.proofs.Common.{◌≡◌, ℕ, ◌+◌, ◌-◌, ◌*◌, ◌<◌, ◌≤◌, List, length, get_or, ℤ, Some, Ok, Err, Result, sym, ap, ◌∙◌, subst, arith}
+use Rattle.std.proofs.Common.{◌≡◌, ℕ, ◌+◌, ◌-◌, ◌*◌, ◌<◌, ◌≤◌, List, length, get_or, ℤ, pos, Some, Ok, Err, Result, sym, ap, ◌∙◌, subst, arith}
 use Rattle.std.proofs.lemmas.Nat.{mul-le}
 use Rattle.pixel.specs.Ops.{Ops}
 use Rattle.picture.specs.declared.rect.Rect.{Rect}
 use Rattle.picture.specs.declared.size.Size.{Size}
+use Rattle.picture.specs.declared.step.Mask.{Mask}
 use Rattle.picture.specs.declared.step.Step.{Step}
 use Rattle.picture.specs.Compose.{stepped, summed, taken}
 use Rattle.picture.specs.Images.{Image}
 use Rattle.picture.specs.Prepare.{Shown, area, coded, nth}
-use Rattle.picture.specs.Steps.{Formula, black, white, copied, mixed, formula}
+use Rattle.picture.specs.Steps.{Formula, black, white, copied, mixed, formula, kernel}
 use Rattle.layer.specs.declared.aim.Aim.{Aim}
 use Rattle.layer.specs.declared.aim.Carry.{Carry}
 use Rattle.layer.specs.declared.aim.Lens.{Lens}
-use Rattle.layer.specs.Aims.{Aims, Carried, Each, Ground, Mixed, Needless, Few, Lone, Readable, lens_pixel, walked}
+use Rattle.layer.specs.Aims.{Aims, Carried, Each, Ground, Mixed, Needless, Few, Lone, Readable, weights_of, lens_pixel, walked}
 use Rattle.picture.specs.declared.fault.Fault.{Fault}
 use Rattle.layer.specs.declared.undrawn.Undrawn.{Undrawn}
 use Rattle.layer.specs.declared.undrawn.Undrawn.TheVariants.{Uncut, Hole}
@@ -22,7 +23,7 @@ use Rattle.layer.specs.Standing.{Stands}
 use Rattle.layer.proofs.Asking.{reads_some}
 use Rattle.layer.proofs.Laying.{laid_as}
 use Rattle.layer.proofs.Mixing.{carried_place, mixed_pixel}
-use Rattle.layer.specs.Placing.{stood}
+use Rattle.layer.specs.Placing.{mixed_as, stood}
 
 carried_ground : (c : Carry) (i j : ℕ) (φ : Formula) → Carried c i j φ → Ground φ → ⊥
 carried_ground c i j black m h = m
@@ -56,6 +57,12 @@ lone_area l h = omega (arith, mul-le l.at.width l.at.height l.columns l.rows (om
 -- what an aim says, said of another name of it
 pub aims_as : (a b : Aim) (φ : ℕ → ℕ → Formula) (W H : ℕ) (p : Rect) → a ≡ b → Aims (Some a) φ W H p → Aims (Some b) φ W H p
 aims_as a b φ W H p e k = subst (λ (z : Aim). Aims (Some z) φ W H p) e k
+
+-- the same of a mask's weights, scale and offset in other words
+pub masked : (φ : ℕ → ℕ → Formula) (p : Rect) (l : Lens) (m : Mask) (ws : List ℤ) (s : ℕ) (f : ℤ) → ws ≡ (kernel m).coefficients → s ≡ (kernel m).scale → f ≡ (kernel m).offset
+    → Each φ p (Mixed l (weights_of m) (kernel m).scale (kernel m).offset) → Each φ p (Mixed l (λ k. get_or ws k (pos 0)) s f)
+masked φ p l m ws s f ew es ef k i j li lj =
+    mixed_as l (weights_of m) (λ k. get_or ws k (pos 0)) (kernel m).scale s (kernel m).offset f i j _ (λ k. ap (λ y. get_or y k (pos 0)) (sym ew)) (sym es) (sym ef) (k i j li lj)
 
 module _ {K S : Type 0} (o : Ops K S) (b : Image K) where
   -- what is drawn of each place is its code

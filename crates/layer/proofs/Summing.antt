@@ -82,3 +82,10 @@ module _ {K S : Type 0} (o : Ops K S) where
     held_columns g p w l h a b (suc q) =
         let e : q * b + b ≡ suc q * b = sym (ap (λ n. n * b) (sym (add-one q)) ∙ next_row q b) in
         subst (held (columned o p w a b (suc q))) e (held_down g p w l a q (columned o p w a b q) (q * b) b (held_columns g p w l h a b q))
+
+    -- the same of a sum that is such a one
+    pub held_down_as : Grown → (p : ℕ → K) (w : ℕ → ℤ) → ((k : ℕ) → nat_abs (w k) ≤ 256) → (a q : ℕ) (s t : S) (n r : ℕ) → t ≡ downward o p w a q s r → held s n → held t (n + r)
+    held_down_as g p w l a q s t n r e h = subst (λ z. held z (n + r)) (sym e) (held_down g p w l a q s n r h)
+
+    pub held_columns_as : Grown → (p : ℕ → K) (w : ℕ → ℤ) → ((k : ℕ) → nat_abs (w k) ≤ 256) → held o.empty 0 → (a b q : ℕ) (s : S) → s ≡ columned o p w a b q → held s (q * b)
+    held_columns_as g p w l h a b q s e = subst (λ z. held z (q * b)) (sym e) (held_columns g p w l h a b q)

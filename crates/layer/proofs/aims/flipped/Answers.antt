@@ -1,11 +1,6 @@
 use Rattle.std.proofs.Common.{refl}
-use Rattle.layer.proofs.Aiming.{as_flips, copies_mirrored, copies_upturned}
+use Rattle.layer.proofs.Aiming.{as_flips, copies_upturned}
 use Rattle.layer.proofs.aims.flipped.Goals as goal
-
-pub returns-in-Horizontal : goal.returns-in-Horizontal
-returns-in-Horizontal c =
-    as_flips _ _ _ _ _ _ c.in-Horizontal.is
-    (copies_mirrored _ c.args.size.width c.args.size.height c.args.part c.requires.across c.requires.down refl refl refl refl refl refl refl refl refl)
 
 pub returns-in-Vertical : goal.returns-in-Vertical
 returns-in-Vertical c =

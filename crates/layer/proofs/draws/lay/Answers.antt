@@ -1,9 +1,6 @@
 use Rattle.std.proofs.Common.{◌≡◌, ◌+◌, ◌-◌, length, ap, ◌∙◌, arith, rules}
-use Rattle.layer.proofs.Laying.{laid_above, laid_no_rows, laid_row}
+use Rattle.layer.proofs.Laying.{laid_above, laid_row}
 use Rattle.layer.proofs.draws.lay.Goals as goal
-
-pub loop-j-init : goal.loop-j-init
-loop-j-init g c = laid_no_rows _ _ _ _ _ _
 
 pub loop-j-preserved : goal.loop-j-preserved
 loop-j-preserved g c =

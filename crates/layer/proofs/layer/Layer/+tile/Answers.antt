@@ -1,21 +1,20 @@
 use Rattle.std.proofs.Common.{ap, ◌∙◌}
-use Rattle.std.proofs.lemmas.Result.{err_from_is_err_and}
 use Rattle.picture.specs.Steps.{formula}
 use Rattle.layer.specs.Placing.{kept_follows, kept_shows}
-use Rattle.layer.proofs.Tiling.{needless_kept, needless_part, shows_after, shows_halves}
+use Rattle.layer.proofs.Tiling.{needless_kept, needless_part, shows_halves}
 use Rattle.layer.proofs.layer.Layer.+tile.Goals as goal
 
-pub returns-in_err-tile : goal.returns-in_err-tile
-returns-in_err-tile g t c =
-    let y = (err_from_is_err_and c.from_residual.result c.from_residual.ensures.1).1 in
+pub returns-in_err-tile-clause-drawn : goal.returns-in_err-tile-clause-drawn
+returns-in_err-tile-clause-drawn g t c n =
     let l = c.args.self.now in
-    let near = needless_part (formula l.over.step l.over.size.width l.over.size.height) c.args.piece.part c.halves.result.0 c.halves.ensures.smaller.near in
-    record {
-      laid = λ z. let e : ⊥ = cc in absurd e;
-      kept = c.tile.ensures.kept;
-      drawn = λ n. let x = c.tile.ensures.drawn (near n) in let w = c.in_err-tile.was in let e : ⊥ = cc in absurd e;
-      quiet = λ n. c.tile.ensures.quiet (near n);
-    }
+    let x = c.tile.ensures.drawn (needless_part (formula l.over.step l.over.size.width l.over.size.height) c.args.piece.part c.halves.result.0 c.halves.ensures.smaller.near n) in
+    let w = c.in_err-tile.was in
+    let e : ⊥ = cc in absurd e
+
+pub returns-in_err-tile-clause-quiet : goal.returns-in_err-tile-clause-quiet
+returns-in_err-tile-clause-quiet g t c n =
+    let l = c.args.self.now in
+    c.tile.ensures.quiet (needless_part (formula l.over.step l.over.size.width l.over.size.height) c.args.piece.part c.halves.result.0 c.halves.ensures.smaller.near n)
 
 pub returns-in-Some : goal.returns-in-Some
 returns-in-Some g t c =
@@ -38,16 +37,5 @@ returns-in-Some g t c =
       quiet = λ n. c.tile-in-Some.ensures.quiet (needless_kept o model count l c.tile.new.self far k (needless_part φ p far s.far n)) ∙ c.tile.ensures.quiet (needless_part φ p near s.near n);
     }
 
-pub returns-in-Err : goal.returns-in-Err
-returns-in-Err g t c =
-    let o = g.P.Pixel.Kind.ops in
-    let model = g.P.Picture.model in
-    let count = g.P.Picture.count in
-    let l = c.args.self.now in
-    let k = c.block.ensures.kept in
-    record {
-      laid = λ z. shows_after o _ _ c.args.piece.whole c.args.piece.part _ _ _ (ap (λ m. m.shown) (kept_shows o model count l c.block.new.self k)) (c.block.ensures.spared _ c.in-Err.is) (c.exact.ensures.laid z);
-      kept = kept_follows o model count l c.block.new.self c.exact.new.self k c.exact.ensures.kept;
-      drawn = λ n. let x = c.block.ensures.drawn n in let w = c.in-Err.is in let e : ⊥ = cc in absurd e;
-      quiet = λ n. let x = c.block.ensures.drawn n in let w = c.in-Err.is in let e : ⊥ = cc in absurd e;
-    }
+pub returns-in-Err-clause-kept : goal.returns-in-Err-clause-kept
+returns-in-Err-clause-kept g t c = kept_follows g.P.Pixel.Kind.ops g.P.Picture.model g.P.Picture.count c.args.self.now c.block.new.self c.exact.new.self c.block.ensures.kept c.exact.ensures.kept

@@ -1,12 +1,8 @@
-use Rattle.std.proofs.Common.{◌≡◌, ℕ, ◌+◌, ◌-◌, length, refl, ap, ◌∙◌, arith, rules}
-use Rattle.std.proofs.lemmas.Result.{err_from_is_err_and}
+use Rattle.std.proofs.Common.{◌≡◌, ◌+◌, ◌-◌, length, ap, ◌∙◌, arith, rules}
 use Rattle.picture.specs.Prepare.{coded}
-use Rattle.layer.specs.Placing.{kept_follows, kept-none, kept_shows}
-use Rattle.layer.proofs.Laying.{laid_above, laid_height, laid_no_rows, laid_row}
+use Rattle.layer.specs.Placing.{kept_follows, kept_shows}
+use Rattle.layer.proofs.Laying.{laid_above, laid_row}
 use Rattle.layer.proofs.layer.Layer.exact.Goals as goal
-
-pub loop-j-init : goal.loop-j-init
-loop-j-init g c = (laid_no_rows _ _ _ _ _ _, kept-none g.P.Pixel.Kind.ops g.P.Picture.model g.P.Picture.count _ _ refl refl refl refl)
 
 pub loop-j-preserved : goal.loop-j-preserved
 loop-j-preserved g c =
@@ -22,15 +18,5 @@ loop-j-preserved g c =
       kept_follows o g.P.Picture.model g.P.Picture.count c.args.self.now c.loop-j.self c.row.new.self c.loop-j.invariant.1 c.row.ensures.same,
     )
 
-pub returns-in_err-row : goal.returns-in_err-row
-returns-in_err-row g c =
-    let y = (err_from_is_err_and c.from_residual.result c.from_residual.ensures.1).1 in
-    record {
-      laid = λ z. let e = y in let n : ◌≡◌ {A = ℕ} 0 1 = cc in absurd (omega arith);
-      kept = kept_follows g.P.Pixel.Kind.ops g.P.Picture.model g.P.Picture.count c.args.self.now c.loop-j.self c.row.new.self c.loop-j.invariant.1 c.row.ensures.same;
-    }
-
-pub returns : goal.returns
-returns g c =
-    let e : c.loop-j.j ≡ c.args.piece.part.height = omega arith in
-    record { laid = λ z. laid_height _ _ _ _ _ _ _ _ _ e c.loop-j.invariant.0; kept = c.loop-j.invariant.1 }
+pub returns-in_err-row-clause-kept : goal.returns-in_err-row-clause-kept
+returns-in_err-row-clause-kept g c = kept_follows g.P.Pixel.Kind.ops g.P.Picture.model g.P.Picture.count c.args.self.now c.loop-j.self c.row.new.self c.loop-j.invariant.1 c.row.ensures.same

@@ -1,55 +1,14 @@
-use Rattle.std.proofs.Common.{◌≡◌, ◌+◌, ◌≤◌, [], length, sym, refl, ap, ◌∙◌, arith, rules}
-use Rattle.picture.specs.Prepare.{answer, area, filled, nth, up}
-use Rattle.picture.specs.Refusals.{refused}
+use Rattle.std.proofs.Common.{◌≡◌, ◌+◌, ◌≤◌, length, sym, ap, ◌∙◌, arith, rules}
+use Rattle.picture.specs.Prepare.{area, nth, up}
 use Rattle.picture.specs.Places.{first_fault}
 use Rattle.picture.proofs.Serving.{answer_is}
 use Rattle.layer.specs.Layers.{model_of}
 use Rattle.layer.specs.Placing.{kept_follows, kept_shows, stood_high, stood_wide}
 use Rattle.std.proofs.lemmas.List.{length-take-le}
 use Rattle.std.specs.Prelude.{is_ok}
-use Rattle.layer.proofs.Serving.{holed_not, never_falls, ok_of, refused_across, refused_down, refused_short, same_rest, served_pieces, served_rows}
+use Rattle.layer.proofs.Serving.{holed_not, never_falls, ok_of, same_rest, served_pieces, served_rows}
 use Rattle.layer.proofs.Tiling.{needless_stood}
 use Rattle.layer.proofs.layer.Layer.prepare_counted.Goals as goal
-use Rattle.layer.proofs.layer.Layer.prepare_counted.Goals.{then-rect-size-via-then-rect-size, then-rect-size-via-else-rect-size+then-rect-size-2}
-
-pub returns-then-rect-size : goal.returns-then-rect-size
-returns-then-rect-size g c =
-    let o = g.P.Pixel.Kind.ops in
-    let model = g.P.Picture.model in
-    let l = c.args.self.now in
-    let b = (model l.below).shown in
-    let i = (model_of o model l).shown in
-    let r = c.args.rect in
-    let w = stood_wide b l.over.step l.over.size l.stands in
-    let h = stood_high b l.over.step l.over.size l.stands in
-    let up_one : c.saturating_add-self.result ≡ up l.count = search rules in
-    let t = c.args.buffer.now in
-    let s : (refused 10 [] ≡ answer i r (length t)) × (t ≡ filled o i r t) =
-    elim c.then-rect-size.branch [
-      | then-rect-size-via-then-rect-size q ↦ refused_across o i r t (omega (arith, q.if-rect-size.true, c.shown-size.ensures.width))
-      | then-rect-size-via-else-rect-size+then-rect-size-2 q ↦ refused_down o i r t (omega (arith, q.if-rect-size-2.true, c.shown-size.ensures.height))
-    ] in
-    record {
-      prepared = record { answers = s.0; fills = s.1; counts = up_one; keeps = refl };
-      asked = record { times = 0; counts = refl; grows = λ e. omega arith; outside = λ e. refl; short = λ e. refl; needless = λ e. refl };
-    }
-
-pub returns-then-n-buffer : goal.returns-then-n-buffer
-returns-then-n-buffer g c =
-    let o = g.P.Pixel.Kind.ops in
-    let model = g.P.Picture.model in
-    let l = c.args.self.now in
-    let b = (model l.below).shown in
-    let i = (model_of o model l).shown in
-    let r = c.args.rect in
-    let w = stood_wide b l.over.step l.over.size l.stands in
-    let h = stood_high b l.over.step l.over.size l.stands in
-    let up_one : c.saturating_add-self.result ≡ up l.count = search rules in
-    let s = refused_short o i r c.args.buffer.now (omega (arith, c.shown-size.ensures.width)) (omega (arith, c.shown-size.ensures.height)) (omega (arith, c.area-n.ensures)) in
-    record {
-      prepared = record { answers = s.0; fills = s.1; counts = up_one; keeps = refl };
-      asked = record { times = 0; counts = refl; grows = λ e. omega arith; outside = λ e. refl; short = λ e. refl; needless = λ e. refl };
-    }
 
 pub returns-then-is_ok : goal.returns-then-is_ok
 returns-then-is_ok g c =

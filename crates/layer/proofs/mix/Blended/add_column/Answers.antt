@@ -1,47 +1,20 @@
-use Rattle.std.proofs.Common.{◌≡◌, ◌+◌, ◌-◌, ◌*◌, min, get_or, nat_abs, is_some, sym, ap, ◌∙◌, subst, arith, to_z-of_z, w32, SFits, to_z, of_z, rules}
+use Rattle.std.proofs.Common.{◌≡◌, ◌+◌, ◌-◌, ◌*◌, min, get_or, sym, ap, ◌∙◌, arith, to_z-of_z, w32, SFits, to_z, of_z, rules}
 use Rattle.layer.specs.Aims.{lens_column, lens_row, lens_pixel, lens_spot}
 use Rattle.layer.specs.Sums.{downward}
-use Rattle.layer.proofs.Reading.{index-inside, spot_at}
-use Rattle.layer.proofs.Summing.{downward_more, held_down, or_black_is}
+use Rattle.layer.proofs.Reading.{spot_at}
+use Rattle.layer.proofs.Summing.{downward_more, held_down_as, or_black_is}
 use Rattle.layer.proofs.mix.Blended.add_column.Goals as goal
 
--- where the code stands
-index : (g : _) (c : goal.After-decode g) → c.min-row.result * c.args.self.now.lens.at.width + c.min-column.result ≡ lens_row c.args.self.now.lens c.args.j c.loop-r.r * c.args.self.now.lens.at.width + lens_column c.args.self.now.lens c.args.i c.args.q
-index g c =
-    let row : c.min-row.result ≡ lens_row c.args.self.now.lens c.args.j c.loop-r.r = c.min-row.ensures ∙ ap (λ z. min z (c.args.self.now.lens.at.height - 1)) c.saturating_sub-in-loop-r.ensures in
-    let column : c.min-column.result ≡ lens_column c.args.self.now.lens c.args.i c.args.q = c.min-column.ensures ∙ ap (λ z. min z (c.args.self.now.lens.at.width - 1)) c.saturating_sub.ensures in
-    ap (λ z. z * c.args.self.now.lens.at.width + c.min-column.result) row ∙ ap (λ z. lens_row c.args.self.now.lens c.args.j c.loop-r.r * c.args.self.now.lens.at.width + z) column
-
-pub bounds-codes-row : goal.bounds-codes-row
-bounds-codes-row g c =
-    let l = c.args.self.now.lens in
-    let row : c.min-row.result ≡ lens_row l c.args.j c.loop-r.r = c.min-row.ensures ∙ ap (λ z. min z (l.at.height - 1)) c.saturating_sub-in-loop-r.ensures in
-    let column : c.min-column.result ≡ lens_column l c.args.i c.args.q = c.min-column.ensures ∙ ap (λ z. min z (l.at.width - 1)) c.saturating_sub.ensures in
-    omega (arith, ap (λ z. z * l.at.width) row, index-inside l c.args.i c.args.j c.args.q c.loop-r.r, c.requires.can.room)
-
-pub unwrap-pixel-requires : goal.unwrap-pixel-requires
-unwrap-pixel-requires g c =
-    let l = c.args.self.now.lens in
-    ap is_some (c.decode.ensures ∙ ap (λ z. g.K.Kind.ops.decode (get_or c.args.codes.now z 0)) (index g c))
-    ∙ c.requires.can.pixels (lens_row l c.args.j c.loop-r.r * l.at.width + lens_column l c.args.i c.args.q) (index-inside l c.args.i c.args.j c.args.q c.loop-r.r)
-
-pub more-sum-requires : goal.more-sum-requires
-more-sum-requires g c =
+pub more-sum-requires-clause-room : goal.more-sum-requires-clause-room
+more-sum-requires-clause-room g c =
     let o = g.K.Kind.ops in
     let w = g.W.Weights.weighs c.args.self.now.filter.weights in
     let p = lens_pixel o c.args.codes.now c.args.self.now.lens c.args.i c.args.j in
-    let f : SFits w32 c.weight-weight.result = search rules in
-    let e = to_z-of_z f ∙ c.weight-weight.ensures in
-    let room = c.requires.room in
-    record {
-      room = (
-        room.0 + c.loop-r.r,
-        subst (λ s. g.K.Kind.held s (room.0 + c.loop-r.r)) (sym c.loop-r.invariant)
-            (held_down o g.K.Kind.held g.met.K.Kind.grown p w c.args.self.now.filter.light c.args.self.now.lens.columns c.args.q c.args.sum room.0 c.loop-r.r room.1),
-        omega (arith, room.2),
-      );
-      light = omega (arith, ap nat_abs e, c.args.self.now.filter.light (c.loop-r.r * c.args.self.now.lens.columns + c.args.q));
-    }
+    let room = c.requires.room in (
+      room.0 + c.loop-r.r,
+      held_down_as o g.K.Kind.held g.met.K.Kind.grown p w c.args.self.now.filter.light c.args.self.now.lens.columns c.args.q c.args.sum c.loop-r.sum room.0 c.loop-r.r c.loop-r.invariant room.1,
+      omega (arith, room.2),
+    )
 
 pub loop-r-preserved : goal.loop-r-preserved
 loop-r-preserved g c =

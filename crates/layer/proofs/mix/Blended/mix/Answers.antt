@@ -1,51 +1,34 @@
-use Rattle.std.proofs.Common.{◌≡◌, ◌*◌, sym, ap, ◌∙◌, subst, mul_comm, arith, to_z-of_z, w32, SFits, rules}
+use Rattle.std.proofs.Common.{◌≡◌, ◌*◌, ap, ◌∙◌, mul_comm, arith, to_z-of_z, w32, SFits, rules}
 use Rattle.picture.proofs.Serving.{row_end}
 use Rattle.layer.specs.Aims.{lens_pixel}
-use Rattle.layer.specs.Sums.{downward, columned}
-use Rattle.layer.proofs.Summing.{by_columns, columned_more, held_columns}
+use Rattle.layer.specs.Sums.{columned}
+use Rattle.layer.proofs.Summing.{by_columns, held_columns_as}
 use Rattle.layer.proofs.mix.Blended.mix.Goals as goal
 
-pub add_column-sum-requires : goal.add_column-sum-requires
-add_column-sum-requires g c =
+pub add_column-sum-requires-clause-room : goal.add_column-sum-requires-clause-room
+add_column-sum-requires-clause-room g c =
     let o = g.K.Kind.ops in
-    let l = c.args.self.now.lens in
-    let w = g.W.Weights.weighs c.args.self.now.filter.weights in
-    let p = lens_pixel o c.args.codes.now l c.args.i c.args.j in
-    record {
-      can = c.requires;
-      inside = c.loop-q-test.true;
-      room = (
-        c.loop-q.q * l.rows,
-        subst (λ s. g.K.Kind.held s (c.loop-q.q * l.rows)) (sym c.loop-q.invariant)
-            (held_columns o g.K.Kind.held g.met.K.Kind.grown p w c.args.self.now.filter.light g.met.K.Kind.begun l.columns l.rows c.loop-q.q),
-        row_end c.loop-q.q l.rows l.columns 4096 c.loop-q-test.true (omega (arith, mul_comm l.rows l.columns, c.requires.few.few)),
-      );
-    }
+    let b = c.args.self.now in
+    let l = b.lens in
+    let w = g.W.Weights.weighs b.filter.weights in
+    let p = lens_pixel o c.args.codes.now l c.args.i c.args.j in (
+      c.loop-q.q * l.rows,
+      held_columns_as o g.K.Kind.held g.met.K.Kind.grown p w b.filter.light g.met.K.Kind.begun l.columns l.rows c.loop-q.q c.loop-q.sum c.loop-q.invariant,
+      row_end c.loop-q.q l.rows l.columns 4096 c.loop-q-test.true (omega (arith, mul_comm l.rows l.columns, c.requires.few.few)),
+    )
 
-pub finish-requires : goal.finish-requires
-finish-requires g c =
+pub finish-requires-clause-room : goal.finish-requires-clause-room
+finish-requires-clause-room g c =
     let o = g.K.Kind.ops in
-    let l = c.args.self.now.lens in
-    let w = g.W.Weights.weighs c.args.self.now.filter.weights in
+    let b = c.args.self.now in
+    let l = b.lens in
+    let w = g.W.Weights.weighs b.filter.weights in
     let p = lens_pixel o c.args.codes.now l c.args.i c.args.j in
-    let q : c.loop-q.q ≡ l.columns = omega arith in
-    record {
-      room = (
-        c.loop-q.q * l.rows,
-        subst (λ s. g.K.Kind.held s (c.loop-q.q * l.rows)) (sym c.loop-q.invariant)
-            (held_columns o g.K.Kind.held g.met.K.Kind.grown p w c.args.self.now.filter.light g.met.K.Kind.begun l.columns l.rows c.loop-q.q),
-        omega (arith, ap (λ z. z * l.rows) q, c.requires.few.few),
-      );
-      scale = c.args.self.now.filter.scaled;
-    }
-
-pub loop-q-preserved : goal.loop-q-preserved
-loop-q-preserved g c =
-    let o = g.K.Kind.ops in
-    let l = c.args.self.now.lens in
-    let w = g.W.Weights.weighs c.args.self.now.filter.weights in
-    let p = lens_pixel o c.args.codes.now l c.args.i c.args.j in
-    c.add_column-sum.ensures ∙ ap (λ s. downward o p w l.columns c.loop-q.q s l.rows) c.loop-q.invariant ∙ sym (columned_more o p w l.columns l.rows c.loop-q.q)
+    let q : c.loop-q.q ≡ l.columns = omega arith in (
+      c.loop-q.q * l.rows,
+      held_columns_as o g.K.Kind.held g.met.K.Kind.grown p w b.filter.light g.met.K.Kind.begun l.columns l.rows c.loop-q.q c.loop-q.sum c.loop-q.invariant,
+      omega (arith, ap (λ z. z * l.rows) q, c.requires.few.few),
+    )
 
 pub returns : goal.returns
 returns g c =

@@ -1,23 +1,11 @@
-use Rattle.std.proofs.Common.{◌≡◌, ℕ, ◌+◌, length, Err, sym, refl, ap, ◌∙◌, subst, arith}
+use Rattle.std.proofs.Common.{◌≡◌, ◌+◌, length, Err, sym, ap, ◌∙◌, subst, arith}
 use Rattle.std.proofs.lemmas.Result.{err_from_is_err_and}
 use Rattle.picture.specs.Prepare.{Shown, lined, or_fault}
 use Rattle.picture.proofs.Faults.{shown_clean}
 use Rattle.layer.specs.Layers.{located, model_of}
-use Rattle.layer.specs.Placing.{kept_follows, kept-none, kept_shows}
+use Rattle.layer.specs.Placing.{kept_follows, kept_shows}
 use Rattle.layer.proofs.Rowing.{hole_next, shown-next}
 use Rattle.layer.proofs.showing.LayerRows.row.Goals as goal
-
-pub place-requires : goal.place-requires
-place-requires g c =
-    let v = kept_shows g.P.Pixel.Kind.ops g.P.Picture.model g.P.Picture.count c.args.self.now c.loop-k.self c.loop-k.invariant.1 in
-    record {
-      across = omega (arith, c.requires.across, ap (λ m. m.shown.width) v);
-      down = omega (arith, c.requires.down, ap (λ m. m.shown.height) v);
-    }
-
-pub loop-k-init : goal.loop-k-init
-loop-k-init g c =
-    (λ k h. absurd (omega arith), kept-none g.P.Pixel.Kind.ops g.P.Picture.model g.P.Picture.count c.args.self.now c.args.self.now refl refl refl refl)
 
 pub loop-k-preserved : goal.loop-k-preserved
 loop-k-preserved g c =
@@ -30,29 +18,22 @@ loop-k-preserved g c =
       kept_follows o model count c.args.self.now c.loop-k.self c.place.new.self c.loop-k.invariant.1 c.place.ensures.kept,
     )
 
-pub returns-in_err-code : goal.returns-in_err-code
-returns-in_err-code g c =
+pub returns-in_err-code-clause-answer : goal.returns-in_err-code-clause-answer
+returns-in_err-code-clause-answer g c =
     let p = err_from_is_err_and c.from_residual.result c.from_residual.ensures.1 in
-    let e = p.1 ∙ ap Err p.2 in
     let o = g.P.Pixel.Kind.ops in
     let model = g.P.Picture.model in
-    let count = g.P.Picture.count in
-    let v = kept_shows o model count c.args.self.now c.loop-k.self c.loop-k.invariant.1 in
-    record {
-      answer = e ∙ hole_next o (lined (model_of o model c.args.self.now).shown c.args.left c.args.row) c.loop-k.out c.loop-k.k (length c.args.out.now) _ (omega arith) c.loop-k.invariant.0
-          (c.in_err-code.ensures.answer ∙ ap (λ m. located o (m.shown.at (c.args.left + c.loop-k.k) c.args.row)) (sym v));
-      shown = λ z. let y = e in let n : ◌≡◌ {A = ℕ} 0 1 = cc in absurd (omega arith);
-      same = kept_follows o model count c.args.self.now c.loop-k.self c.place.new.self c.loop-k.invariant.1 c.place.ensures.kept;
-    }
+    let v = kept_shows o model g.P.Picture.count c.args.self.now c.loop-k.self c.loop-k.invariant.1 in
+    p.1 ∙ ap Err p.2
+    ∙ hole_next o (lined (model_of o model c.args.self.now).shown c.args.left c.args.row) c.loop-k.out c.loop-k.k (length c.args.out.now) _ (omega arith) c.loop-k.invariant.0
+    (c.in_err-code.ensures.answer ∙ ap (λ m. located o (m.shown.at (c.args.left + c.loop-k.k) c.args.row)) (sym v))
 
-pub returns : goal.returns
-returns g c =
+pub returns-in_err-code-clause-same : goal.returns-in_err-code-clause-same
+returns-in_err-code-clause-same g c = kept_follows g.P.Pixel.Kind.ops g.P.Picture.model g.P.Picture.count c.args.self.now c.loop-k.self c.place.new.self c.loop-k.invariant.1 c.place.ensures.kept
+
+pub returns-clause-answer : goal.returns-clause-answer
+returns-clause-answer g c =
     let o = g.P.Pixel.Kind.ops in
     let f = lined (model_of o g.P.Picture.model c.args.self.now).shown c.args.left c.args.row in
     let e : c.loop-k.k ≡ length c.args.out.now = omega arith in
-    let s : Shown o f (length c.args.out.now) c.loop-k.out = subst (λ n. Shown o f n c.loop-k.out) e c.loop-k.invariant.0 in
-    record {
-      answer = ap or_fault (sym (shown_clean o f (length c.args.out.now) c.loop-k.out s));
-      shown = λ z. s;
-      same = c.loop-k.invariant.1;
-    }
+    ap or_fault (sym (shown_clean o f (length c.args.out.now) c.loop-k.out (subst (λ n. Shown o f n c.loop-k.out) e c.loop-k.invariant.0)))
