@@ -2,6 +2,7 @@
 use Rattle.std.proofs.Common.{◌≡◌, ℕ, zero, suc, ◌+◌, ◌<◌, ◌≤◌, true, List, ◌++◌, map, length, get_or, drop, replicate, is_some, Some, None, Option, sym, refl, ap, ◌∙◌, subst, ⊎_elim, arith}
 use Rattle.std.proofs.lemmas.List.{get_or_append_left}
 use Rattle.std.proofs.lemmas.List.FromFn.{get_or-map-range_with_len, length-map-range_with_len}
+use Rattle.std.proofs.lemmas.Option.{none-some}
 use Rattle.std.proofs.lemmas.Bool.{cases_lt}
 use Rattle.std.specs.List.{range_with_len}
 use Rattle.pixel.specs.Ops.{Ops}
@@ -16,7 +17,7 @@ use Rattle.picture.proofs.Serving.{answer_is, filled_is, whole}
 
 or_none : {X : Type 0} (x y : Option X) → or_else x y ≡ None → (x ≡ None) × (y ≡ None)
 or_none None y e = (refl, e)
-or_none (Some x) y e = let z : ◌≡◌ {A = ℕ} 0 1 = cc in absurd (omega arith)
+or_none (Some x) y e = absurd (none-some x (sym e))
 
 -- where no place is a hole, each is a pixel
 none_each : {K : Type 0} (f : ℕ → Place K) (n : ℕ) → first_fault f n ≡ None → (k : ℕ) → k < n → fault_of (f k) ≡ None
@@ -45,7 +46,7 @@ put-over (Some g) f n xs ys e = ap (λ l. replicate n 0 ++ l) e
 module _ {K S : Type 0} (o : Ops K S) where
   clean_coded : (p : Place K) → fault_of p ≡ None → coded o p ≡ Some (code_at o p)
   clean_coded (pixel k) e = refl
-  clean_coded (hole f) e = let z : ◌≡◌ {A = ℕ} 0 1 = cc in absurd (omega arith)
+  clean_coded (hole f) e = absurd (none-some f (sym e))
 
   module _ (b : Image K) (r : Rect) (buf : List ℕ) (x : r.left + r.width ≤ b.width) (y : r.top + r.height ≤ b.height) (z : area r ≤ length buf) where
     -- a prepare that was answered

@@ -8,7 +8,6 @@ use crate::cache::Cache;
 use crate::shape::TileShape;
 use crate::tile::Tile;
 use picture::{Picture, Rect, Refusal, Size};
-use pixel::Kind;
 
 /// The rectangle of a tile, cut at the picture's edge.
 pub fn cell(shape: TileShape, size: Size, tile: Tile) -> Rect
