@@ -21,8 +21,7 @@ fn put_sample(out: &mut [u8], sample: u16, maxval: u16) -> usize
         out[0] = sample as u8;
         1
     } else {
-        out[0] = (sample / 256) as u8;
-        out[1] = (sample % 256) as u8;
+        out[..2].copy_from_slice(&sample.to_be_bytes());
         2
     }
 }
