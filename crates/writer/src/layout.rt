@@ -9,6 +9,7 @@ ghost use Rattle.writer.specs.Calls.{over};
 use pixel::Kind;
 
 // Each function here writes at the start of the buffer, and answers how many bytes it wrote.
+// That codes are known stands in each contract: a struct that says so of a lent slice would be made anew for each row, and is no plainer.
 
 /// Writes a sample.
 fn put_sample(out: &mut [u8], sample: u16, maxval: u16) -> usize
