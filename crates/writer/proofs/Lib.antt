@@ -10,3 +10,4 @@ pub mod Squares
 pub mod Firsts
 pub mod Wholes
 pub mod Strips
+pub mod Tiling

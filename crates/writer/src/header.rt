@@ -2,6 +2,8 @@ ghost use Rattle.std.specs.Prelude.{◌≡◌, ℕ, ◌+◌, ◌≤◌, [], ◌�
 ghost use Rattle.writer.specs.File.{field, header};
 ghost use Rattle.writer.specs.Calls.{over};
 
+// Numbers are printed here: a formatter prints into a buffer of its own, and can't say beforehand how long a header is.
+
 /// How many digits a number has.
 fn digits(n: u32) -> usize
     ensures value { result ≡ length (decimal n) }

@@ -9,6 +9,7 @@ ghost use Rattle.writer.specs.Calls.{over};
 use pixel::Kind;
 
 // Each function here writes at the start of the buffer, and answers how many bytes it wrote.
+// That codes are known stands in each contract: a struct that says so of a lent slice would be made anew for each row, and is no plainer.
 
 /// Writes a sample.
 fn put_sample(out: &mut [u8], sample: u16, maxval: u16) -> usize
@@ -21,8 +22,7 @@ fn put_sample(out: &mut [u8], sample: u16, maxval: u16) -> usize
         out[0] = sample as u8;
         1
     } else {
-        out[0] = (sample / 256) as u8;
-        out[1] = (sample % 256) as u8;
+        out[..2].copy_from_slice(&sample.to_be_bytes());
         2
     }
 }

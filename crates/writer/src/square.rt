@@ -36,7 +36,7 @@ impl<K: Kind> Square<K> {
     }
 
     /// Writes the rows that show these codes.
-    // By index, since the last codes may be of no row, and `wide` may be 0, which `chunks_exact` can't be given.
+    // By index: `chunks_exact` would ask that `wide` be at least 1, and that no codes lie behind the last row.
     fn put_rows(&self, out: &mut [u8], codes: &[u64], wide: usize, high: usize) -> usize
         requires codes { high * wide ≤ length codes.now }
         requires within { wide ≤ self.now.side }

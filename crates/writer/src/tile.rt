@@ -31,7 +31,7 @@ fn visible(size: Size, column: u32, row: u32, side: u32) -> Option<Rect>
 {
     let left = column as u64 * side as u64;
     let top = row as u64 * side as u64;
-    if side < 1 || side > LARGEST || left >= size.width as u64 || top >= size.height as u64 {
+    if !(1..=LARGEST).contains(&side) || left >= size.width as u64 || top >= size.height as u64 {
         return None;
     }
     let left = left as u32;

@@ -14,9 +14,6 @@ put_number-end-requires t c = let f : c.args.n < 2 ^ 32 = omega (arith, c.ranges
 pub bounds-out-end : goal.bounds-out-end
 bounds-out-end t c = let f : c.args.n < 2 ^ 32 = omega (arith, c.ranges.n) in omega (arith, length-step c.args.n c.if-n-lt10.false f, c.put_number-end.ensures.end, c.put_number-end.auto.out)
 
-pub overflow_add-result : goal.overflow_add-result
-overflow_add-result t c = let f : c.args.n < 2 ^ 32 = omega (arith, c.ranges.n) in omega (arith, length-step c.args.n c.if-n-lt10.false f, c.put_number-end.ensures.end, c.put_number-end.auto.out)
-
 pub returns-then-n-lt10 : goal.returns-then-n-lt10
 returns-then-n-lt10 t c =
     let l = length_digit c.args.n c.if-n-lt10.true in

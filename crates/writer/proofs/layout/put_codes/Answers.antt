@@ -1,24 +1,11 @@
-use Rattle.std.proofs.Common.{◌≡◌, ◌-◌, ◌*◌, ◌<◌, length, get_or, take, drop, Option, sym, refl, ap, ◌∙◌, subst, zero-mul, arith}
+use Rattle.std.proofs.Common.{◌≡◌, ◌-◌, ◌*◌, ◌<◌, length, get_or, take, drop, Option, sym, ap, ◌∙◌, subst, arith}
 use Rattle.std.specs.List.{range_with_len, flat_map}
 use Rattle.writer.specs.File.{pixel_width}
 use Rattle.writer.specs.Layout.{code_bytes, decoded_bytes, Known}
 use Rattle.writer.proofs.Joins.{length-code_bytes, times_more, room, over_turn, by_place}
 use Rattle.writer.specs.Calls.{over}
-use Rattle.writer.proofs.Paste.{length-behind}
 use Rattle.writer.proofs.layout.put_codes.Goals as goal
 use Rattle.writer.proofs.layout.put_codes.Goals.{in-Some, in_default}
-
-pub put_pixel-end-requires : goal.put_pixel-end-requires
-put_pixel-end-requires g c =
-    let h : c.loop-code.code-index < length c.args.codes.now = omega arith in
-    let D : Option g.row.K.Denot → Type 0 = Known g.K.Kind.ops c.args.maxval in
-    record {
-      room = omega (arith, room c.loop-code.code-index (length c.args.codes.now) (pixel_width g.K.Kind.ops c.args.maxval) h, length-behind c.loop-code.out c.loop-code.end);
-      under = subst D (sym c.decode.ensures ∙ c.in-Some.is) (c.requires.known c.loop-code.code-index h);
-    }
-
-pub loop-code-init : goal.loop-code-init
-loop-code-init g c = (sym (zero-mul (pixel_width g.K.Kind.ops c.args.maxval)), refl)
 
 pub loop-code-preserved : goal.loop-code-preserved
 loop-code-preserved g c =

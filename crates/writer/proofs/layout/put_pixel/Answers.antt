@@ -1,20 +1,9 @@
-use Rattle.std.proofs.Common.{◌≡◌, ◌-◌, ◌*◌, ◌<◌, length, get_or, take, drop, sym, refl, ap, ◌∙◌, zero-mul, arith}
+use Rattle.std.proofs.Common.{◌≡◌, ◌-◌, ◌*◌, length, get_or, take, drop, sym, ap, ◌∙◌, arith}
 use Rattle.std.specs.List.{range_with_len, flat_map}
 use Rattle.writer.specs.File.{sample_bytes, sample_width}
 use Rattle.writer.proofs.Joins.{length-sample_bytes, times_more, room, over_turn, by_place}
 use Rattle.writer.specs.Calls.{over}
 use Rattle.writer.proofs.layout.put_pixel.Goals as goal
-
-pub put_sample-end-requires : goal.put_sample-end-requires
-put_sample-end-requires g c =
-    let h : c.loop-k.k < g.K.Kind.ops.depth = omega (arith, c.depth-k-end.ensures) in
-    record {
-      room = omega (arith, room c.loop-k.k g.K.Kind.ops.depth (sample_width c.args.maxval) h);
-      under = omega (arith, c.requires.under c.loop-k.k, c.sample.ensures);
-    }
-
-pub loop-k-init : goal.loop-k-init
-loop-k-init g c = (sym (zero-mul (sample_width c.args.maxval)), refl)
 
 pub loop-k-preserved : goal.loop-k-preserved
 loop-k-preserved g c =

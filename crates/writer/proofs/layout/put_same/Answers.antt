@@ -1,19 +1,7 @@
-use Rattle.std.proofs.Common.{◌<◌, sym, refl, zero-mul, arith}
+use Rattle.std.proofs.Common.{◌<◌, arith}
 use Rattle.writer.specs.File.{pixel_width, pixel_bytes}
 use Rattle.writer.proofs.Joins.{length-pixel_bytes, times_more, room, over_turn}
-use Rattle.writer.proofs.Paste.{length-behind}
 use Rattle.writer.proofs.layout.put_same.Goals as goal
-
-pub put_pixel-end-requires : goal.put_pixel-end-requires
-put_pixel-end-requires g c =
-    let h : c.loop.counter < c.args.count = omega arith in
-    record {
-      room = omega (arith, room c.loop.counter c.args.count (pixel_width g.K.Kind.ops c.args.maxval) h, length-behind c.loop.out c.loop.end);
-      under = c.requires.under;
-    }
-
-pub loop-init : goal.loop-init
-loop-init g c = (sym (zero-mul (pixel_width g.K.Kind.ops c.args.maxval)), refl)
 
 pub loop-preserved : goal.loop-preserved
 loop-preserved g c =

@@ -83,15 +83,6 @@ returns g c =
     ))
     r.keeps
 
-pub returns-in_err-head : goal.returns-in_err-head
-returns-in_err-head g c =
-    let o = g.P.Pixel.Kind.ops in
-    let i = (g.P.Picture.model c.args.picture.now).shown in
-    let z = c.size-size.result in
-    let by = bytes_are o i z c.size-size.ensures.width c.size-size.ensures.height c.size-size.ensures.maxval c.header_bytes.result c.pixel_bytes.result c.header_bytes.ensures.value c.pixel_bytes.ensures.value in
-    let x = c.in_err-head.ensures.begun.0 in
-    absurd (omega (arith, c.if-out-bytes.false))
-
 pub returns-in_err-rows : goal.returns-in_err-rows
 returns-in_err-rows g c =
     let o = g.P.Pixel.Kind.ops in

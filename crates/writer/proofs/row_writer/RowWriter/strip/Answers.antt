@@ -68,19 +68,13 @@ returns-in_err-prepare g c =
     (sym c.if-not-serves.ensures) c.min-rows.ensures c.pixel_bytes.ensures.value c.if-rows-eq0.false c.if-work-places.false c.if-out-bytes.false
     c.prepare.new.self c.prepare.new.buffer _ c.in_err-prepare.field-0.0 c.from_residual.result c.in_err-prepare.ensures (t.1 ∙ ap Err t.2) refl refl refl refl
 
-pub put_codes-requires : goal.put_codes-requires
-put_codes-requires g c =
-    let o = g.P.Pixel.Kind.ops in
-    let w = c.args.self.now in
-    let n = w.size.width * c.min-rows.result in
+pub put_codes-requires-clause-known : goal.put_codes-requires-clause-known
+put_codes-requires-clause-known g c = λ k h.
+    let n = c.args.self.now.size.width * c.min-rows.result in
     let long : length (take n c.prepare.new.buffer) ≡ n = length-take-le n c.prepare.new.buffer (omega (arith, c.if-work-places.false, c.prepare.auto.buffer)) in
-    record {
-      room = let e = ap (λ k. k * pixel_width o w.size.maxval) long in let f = ap (λ k. n * k) c.pixel_bytes.ensures.value in omega (arith, c.if-out-bytes.false);
-      known = λ k h.
-          strips.known o g.P.Picture.model g.P.Picture.count c.args.picture.now c.args.height w c.args.work.now c.args.out.now c.min-rows.result c.pixel_bytes.result
-          (sym c.if-not-serves.ensures) c.min-rows.ensures c.pixel_bytes.ensures.value c.if-rows-eq0.false c.if-work-places.false c.if-out-bytes.false
-          c.prepare.new.self c.prepare.new.buffer _ c.in_ok-prepare.ensures refl refl refl refl g.met.P.Pixel.Kind.decodes (g.met.P.Picture.bounded c.args.picture.now) k (omega arith);
-    }
+    strips.known g.P.Pixel.Kind.ops g.P.Picture.model g.P.Picture.count c.args.picture.now c.args.height c.args.self.now c.args.work.now c.args.out.now c.min-rows.result c.pixel_bytes.result
+    (sym c.if-not-serves.ensures) c.min-rows.ensures c.pixel_bytes.ensures.value c.if-rows-eq0.false c.if-work-places.false c.if-out-bytes.false
+    c.prepare.new.self c.prepare.new.buffer _ c.in_ok-prepare.ensures refl refl refl refl g.met.P.Pixel.Kind.decodes (g.met.P.Picture.bounded c.args.picture.now) k (omega arith)
 
 pub returns : goal.returns
 returns g c =

@@ -5,19 +5,9 @@ use Rattle.writer.proofs.Paste.{over_next, length-behind}
 use Rattle.writer.proofs.Joins.{length_parts, length-pixel_bytes, length-rows_bytes, square_split}
 use Rattle.writer.proofs.square.Square.put.Goals as goal
 
-pub put_rows-end-requires : goal.put_rows-end-requires
-put_rows-end-requires g c = record {
-  codes = c.requires.codes;
-  within = c.requires.across;
-  room = omega (arith, square_split c.args.high c.args.self.now.side (pixel_width g.K.Kind.ops c.args.self.now.maxval) c.requires.down);
-  known = c.requires.known;
-}
-
-pub put_same-requires : goal.put_same-requires
-put_same-requires g c = record {
-  room = omega (arith, square_split c.args.high c.args.self.now.side (pixel_width g.K.Kind.ops c.args.self.now.maxval) c.requires.down, length-behind c.put_rows-end.new.out c.put_rows-end.result);
-  under = c.args.self.now.under;
-}
+pub put_same-requires-clause-room : goal.put_same-requires-clause-room
+put_same-requires-clause-room g c =
+    omega (arith, square_split c.args.high c.args.self.now.side (pixel_width g.K.Kind.ops c.args.self.now.maxval) c.requires.down, length-behind c.put_rows-end.new.out c.put_rows-end.result)
 
 -- the rows fit
 rows_in : (h s n r l : ℕ) → h ≤ s → r ≡ h * (s * n) → s * s * n ≤ l → r ≤ l

@@ -2,21 +2,9 @@ use Rattle.std.proofs.Common.{◌-◌, length, arith}
 use Rattle.std.specs.List.{flat_map}
 use Rattle.writer.specs.File.{pixel_width, pixel_bytes}
 use Rattle.writer.specs.Layout.{repeated, code_bytes}
-use Rattle.writer.proofs.Paste.{over_next, length-behind}
+use Rattle.writer.proofs.Paste.{over_next}
 use Rattle.writer.proofs.Joins.{length-joined, length_parts, length-code_bytes, length-pixel_bytes, times_split}
 use Rattle.writer.proofs.square.Square.put_row.Goals as goal
-
-pub put_codes-end-requires : goal.put_codes-end-requires
-put_codes-end-requires g c = record {
-  room = omega (arith, times_split (length c.args.codes.now) c.args.self.now.side (pixel_width g.K.Kind.ops c.args.self.now.maxval) c.requires.within);
-  known = c.requires.known;
-}
-
-pub put_same-requires : goal.put_same-requires
-put_same-requires g c = record {
-  room = omega (arith, times_split (length c.args.codes.now) c.args.self.now.side (pixel_width g.K.Kind.ops c.args.self.now.maxval) c.requires.within, length-behind c.put_codes-end.new.out c.put_codes-end.result);
-  under = c.args.self.now.under;
-}
 
 pub returns : goal.returns
 returns g c =

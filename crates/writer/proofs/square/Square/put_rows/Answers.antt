@@ -1,4 +1,4 @@
-use Rattle.std.proofs.Common.{◌≡◌, ℕ, ◌+◌, ◌-◌, ◌*◌, ◌<◌, ◌≤◌, length, get_or, take, drop, sym, refl, ap, ◌∙◌, subst, zero-mul, arith, rules}
+use Rattle.std.proofs.Common.{◌≡◌, ℕ, ◌+◌, ◌-◌, ◌*◌, ◌≤◌, length, get_or, take, drop, sym, ap, ◌∙◌, subst, arith, rules}
 use Rattle.std.proofs.lemmas.List.{get_or-take, get_or-drop}
 use Rattle.writer.specs.File.{pixel_width}
 use Rattle.writer.specs.Layout.{row_bytes, Known}
@@ -7,50 +7,27 @@ use Rattle.writer.specs.Calls.{over}
 use Rattle.writer.proofs.Paste.{length-behind}
 use Rattle.writer.proofs.square.Square.put_rows.Goals as goal
 
-pub loop-j-init : goal.loop-j-init
-loop-j-init g c = (sym (zero-mul (c.args.self.now.side * pixel_width g.K.Kind.ops c.args.self.now.maxval)), refl)
-
--- the end of the row is within the codes
-row_in : (j high wide len : ℕ) → j < high → high * wide ≤ len → j * wide + wide ≤ len
-row_in j high wide len h r = omega (arith, room j high wide h)
-
-pub overflow_add-j : goal.overflow_add-j
-overflow_add-j g c =
-    let h : c.loop-j.j * c.args.wide + c.args.wide ≤ length c.args.codes.now = row_in c.loop-j.j c.args.high c.args.wide (length c.args.codes.now) c.loop-j-test.true c.requires.codes in
-    search rules
-
-pub offset_bounds-codes-j : goal.offset_bounds-codes-j
-offset_bounds-codes-j g c =
-    let h : c.loop-j.j * c.args.wide + c.args.wide ≤ length c.args.codes.now = row_in c.loop-j.j c.args.high c.args.wide (length c.args.codes.now) c.loop-j-test.true c.requires.codes in
-    search rules
-
-pub slice_bounds-put_row-end-in-loop-j : goal.slice_bounds-put_row-end-in-loop-j
-slice_bounds-put_row-end-in-loop-j g c = row_in c.loop-j.j c.args.high c.args.wide (length c.args.codes.now) c.loop-j-test.true c.requires.codes
-
 pub overflow_add-end : goal.overflow_add-end
 overflow_add-end g c =
     let n = c.args.self.now.side * pixel_width g.K.Kind.ops c.args.self.now.maxval in
     let h : c.loop-j.end + c.put_row-end.result ≤ length c.args.out.now = omega (arith, room c.loop-j.j c.args.high n c.loop-j-test.true) in
     search rules
 
-pub put_row-end-requires : goal.put_row-end-requires
-put_row-end-requires g c =
+pub put_row-end-requires-clause-room : goal.put_row-end-requires-clause-room
+put_row-end-requires-clause-room g c =
+    omega (arith, room c.loop-j.j c.args.high (c.args.self.now.side * pixel_width g.K.Kind.ops c.args.self.now.maxval) c.loop-j-test.true, length-behind c.loop-j.out c.loop-j.end)
+
+pub put_row-end-requires-clause-known : goal.put_row-end-requires-clause-known
+put_row-end-requires-clause-known g c = λ k h.
     let o = g.K.Kind.ops in
     let j = c.loop-j.j in
     let wide = c.args.wide in
     let cs = c.args.codes.now in
     let n = j * wide + wide - j * wide in
-    let nw : n ≡ wide = omega arith in
     let m = short n (j * wide) cs in
     let r = room j c.args.high wide c.loop-j-test.true in
-    record {
-      within = omega (arith, c.requires.within);
-      room = omega (arith, room j c.args.high (c.args.self.now.side * pixel_width o c.args.self.now.maxval) c.loop-j-test.true, length-behind c.loop-j.out c.loop-j.end);
-      known = λ k h.
-          let l : k < wide = omega arith in
-          let e : get_or (take n (drop (j * wide) cs)) k 0 ≡ get_or cs (j * wide + k) 0 = get_or-take n (drop (j * wide) cs) k 0 (omega arith) ∙ get_or-drop (j * wide) cs k 0 in
-          subst (λ (x : ℕ). Known o c.args.self.now.maxval (o.decode x)) (sym e) (c.requires.known (j * wide + k) (omega arith));
-    }
+    let e : get_or (take n (drop (j * wide) cs)) k 0 ≡ get_or cs (j * wide + k) 0 = get_or-take n (drop (j * wide) cs) k 0 (omega arith) ∙ get_or-drop (j * wide) cs k 0 in
+    subst (λ (x : ℕ). Known o c.args.self.now.maxval (o.decode x)) (sym e) (c.requires.known (j * wide + k) (omega arith))
 
 pub loop-j-preserved : goal.loop-j-preserved
 loop-j-preserved g c =
