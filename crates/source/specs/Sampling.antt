@@ -58,13 +58,6 @@ under_of m (x ∷ xs) h = and_from (nat_le x m) (under m xs) (le-leb x m (h 0 (o
 pub under_not : (m : ℕ) (xs : List ℕ) (k : ℕ) → m < slice_index xs k → under m xs ≡ false
 under_not m xs k h = false_from_ne_true (under m xs) (λ e. let a = under_at m xs e k in omega arith)
 
-pub under_of : (m : ℕ) (xs : List ℕ) → ((j : ℕ) → j < length xs → slice_index xs j ≤ m) → under m xs ≡ true
-under_of m [] h = refl
-under_of m (x ∷ xs) h = and_from (nat_le x m) (under m xs) (le-leb x m (h 0 (omega arith))) (under_of m xs (λ j l. h (suc j) (omega arith)))
-
-pub under_not : (m : ℕ) (xs : List ℕ) (k : ℕ) → m < slice_index xs k → under m xs ≡ false
-under_not m xs k h = false_of (under m xs) (λ e. let a = under_at m xs e k in omega arith)
-
 under_list : (m : ℕ) (f : ℕ → ℕ) (ks : List ℕ) → list_all (λ k. nat_le (f k) m) ks ≡ under m (map f ks)
 under_list m f [] = refl
 under_list m f (k ∷ ks) = ap (λ b. nat_le (f k) m && b) (under_list m f ks)
