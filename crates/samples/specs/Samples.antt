@@ -1,5 +1,5 @@
 -- Picture A is grey, 3 by 2, maxval 255, rows 10 20 30 and 40 50 60; its file has 17 bytes. Picture B is that file cut to 15 bytes. Both are source 0.
-use Rattle.std.specs.Prelude.{◌≡◌, ℕ, ◌+◌, ◌*◌, ◌/◌, ◌%◌, ◌≤◌, true, false, List, [], ◌∷◌, map, length, take, pos, negsuc, Some, None, Ok, Err, Option, Result}
+use Rattle.std.specs.Prelude.{◌≡◌, ℕ, ◌*◌, ◌/◌, ◌%◌, true, false, List, [], ◌∷◌, map, length, take, pos, negsuc, Some, None, Ok, Option}
 use Rattle.std.proofs.Common.{lit≤}
 use Rattle.std.specs.List.{range_with_len}
 use Rattle.pixel.specs.declared.pixels.Grey.{Grey}
@@ -8,8 +8,6 @@ use Rattle.store.specs.Cells.{capped}
 use Rattle.store.specs.Stores.{in_bytes}
 use Rattle.picture.specs.declared.fault.Fault.{Fault}
 use Rattle.picture.specs.declared.fault.Cause.TheVariants.{Missing}
-use Rattle.picture.specs.declared.fault.Refusal.{Refusal}
-use Rattle.picture.specs.declared.rect.Rect.{Rect}
 use Rattle.picture.specs.declared.size.Size.{Size}
 use Rattle.picture.specs.declared.step.Ground.TheVariants.{Copy}
 use Rattle.picture.specs.declared.step.Axis.TheVariants.{Horizontal}
@@ -21,8 +19,7 @@ use Rattle.picture.specs.Places.{first_fault}
 use Rattle.picture.specs.Images.{Image}
 use Rattle.picture.specs.Steps.{fitting}
 use Rattle.picture.specs.Compose.{stepped}
-use Rattle.picture.specs.Prepare.{answer, coded, filled}
-use Rattle.picture.specs.Refusals.{done, refused, told}
+use Rattle.picture.specs.Prepare.{coded}
 use Rattle.source.specs.declared.raster.Raster.{Raster}
 use Rattle.source.specs.Files.{fault_at, raster_image}
 use Rattle.source.specs.Header.{header_of}
