@@ -7,8 +7,8 @@ use Rattle.std.proofs.lemmas.Bool.{cases_lt, lt-ltb, le-ltb, le-leb, lt-leb, leb
 use Rattle.pixel.specs.Ops.{Ops}
 use Rattle.source.specs.Raster as source
 use Rattle.source.specs.Raster.{wide, sample_of, samples_of}
-use Rattle.source.specs.Files as files
 use Rattle.source.specs.Sampling.{samples_long}
+use Rattle.source.proofs.Widths.{same_sample}
 use Rattle.writer.specs.File.{sample_width, sample_bytes, pixel_width}
 use Rattle.writer.proofs.Joins.{length-sample_bytes, room}
 use Rattle.reread.proofs.Parts.{part_at}
@@ -17,17 +17,6 @@ use Rattle.reread.proofs.Parts.{part_at}
 narrow : (m : ℕ) → ltb m 256 ≡ not (wide m)
 narrow m =
     ⊎_elim (λ h. lt-ltb m 256 h ∙ ap not (sym (lt-leb 256 m h))) (λ h. le-ltb m 256 h ∙ ap not (sym (le-leb 256 m h))) (cases_lt m 256)
-
-width_by : (w : Bool) → cond (not w) 1 2 ≡ source.sample_bytes w
-width_by true = refl
-width_by false = refl
-
-same_sample : (m : ℕ) → sample_width m ≡ source.sample_bytes (wide m)
-same_sample m = ap (λ b. cond b 1 2) (narrow m) ∙ width_by (wide m)
-
--- a pixel has as many bytes for the reader as for the writer
-pub same_width : {K S : Type 0} (o : Ops K S) (m : ℕ) → files.pixel_bytes o m ≡ pixel_width o m
-same_width o m = ap (λ n. o.depth * n) (sym (same_sample m))
 
 some_by : (w : Bool) → 0 < source.sample_bytes w
 some_by true = omega arith

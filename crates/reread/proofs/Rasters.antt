@@ -16,7 +16,8 @@ use Rattle.writer.proofs.Codes.{at_place, places_long}
 use Rattle.writer.proofs.Joins.{length-pixel_bytes, room}
 use Rattle.reread.specs.Trips.{NoHoles, Holds, Eights}
 use Rattle.reread.proofs.Parts.{part_at}
-use Rattle.reread.proofs.Pixels.{same_width, width_some}
+use Rattle.source.proofs.Widths.{same_width}
+use Rattle.reread.proofs.Pixels.{width_some}
 use Rattle.reread.proofs.Places.{Laws, stands_read, read_stands}
 
 module _ {K T : Type 0} (o : Ops K T) (laws : Laws o) (i : Image K) (no : NoHoles i) where
@@ -51,7 +52,7 @@ module _ {K T : Type 0} (o : Ops K T) (laws : Laws o) (i : Image K) (no : NoHole
         let m = i.maxval in
         let w = pixel_width o m in
         let k = y * i.width + x in
-        let same = same_width o m in
+        let same = sym (same_width o m) in
         let inside : k < i.width * i.height = omega (arith, room y i.height i.width hy, mul_comm i.height i.width) in
         let here : place_of i k ≡ i.at x y = ap (λ c. i.at c (k / i.width)) (mod-mul-add y i.width x hx) ∙ ap (λ r. i.at x r) (div-mul-add y i.width x hx) in
         let q = no x y hx hy in
@@ -70,7 +71,7 @@ module _ {K T : Type 0} (o : Ops K T) (laws : Laws o) (i : Image K) (no : NoHole
     raster-again bright eights shown n h =
         let m = i.maxval in
         let w = pixel_width o m in
-        let same = same_width o m in
+        let same = sym (same_width o m) in
         let some : 0 < w = width_some o m laws.some in
         let k = n / w in
         let j = n % w in
