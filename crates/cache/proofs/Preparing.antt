@@ -1,16 +1,18 @@
 -- A prepare by tiles: what it answers, and what the machine has done.
-use Rattle.std.proofs.Common.{◌≡◌, ℕ, ◌+◌, ◌-◌, ◌*◌, ◌/◌, ◌%◌, ◌<◌, ◌≤◌, true, false, ◌&&◌, leb, ◌⊎◌, List, [], length, get_or, drop, Some, Ok, Result, sym, ap, ◌∙◌, subst, ⊎_elim, mul_comm, arith}
+use Rattle.std.proofs.Common.{◌≡◌, ℕ, ◌+◌, ◌-◌, ◌*◌, ◌/◌, ◌%◌, ◌<◌, ◌≤◌, true, false, ◌&&◌, leb, List, length, get_or, drop, Some, Ok, Err, Result, sym, ap, ◌∙◌, subst, mul_comm, arith}
 use Rattle.std.proofs.lemmas.Nat.{mul-add-lt, mod_below, div_below, div-add-mod'}
 use Rattle.std.proofs.lemmas.List.{ext_get_or, get_or-drop, length-drop}
-use Rattle.std.proofs.lemmas.Bool.{and_from, and_left, and_right, le-leb, lt-leb, cond-true, cond-false}
+use Rattle.std.proofs.lemmas.Bool.{and_from, le-leb, cond-true, cond-false}
 use Rattle.picture.specs.declared.picture.Picture.{Ghosts}
 use Rattle.pixel.specs.declared.kind.Kind as Kinds
 use Rattle.pixel.specs.Ops.{Ops}
 use Rattle.picture.specs.declared.fault.Refusal.{Refusal}
 use Rattle.picture.specs.declared.rect.Rect.{Rect}
-use Rattle.picture.specs.Refusals.{done, refused, outcome}
+use Rattle.picture.specs.Refusals.{done, outcome, told}
+use Rattle.picture.specs.declared.fault.Refusal.{Refusal}
+use Rattle.picture.proofs.Serving.{refused_answer}
 use Rattle.picture.specs.Images.{Image, Model}
-use Rattle.picture.specs.Prepare.{up, area, inside, nth, answer, Shown, filled, Prepared}
+use Rattle.picture.specs.Prepare.{Admitted, up, area, inside, nth, answer, Shown, filled, Prepared}
 use Rattle.picture.specs.Region.{Within}
 use Rattle.cache.specs.declared.cache.Cache.{Cache}
 use Rattle.cache.specs.declared.shape.TileShape.{TileShape}
@@ -70,20 +72,10 @@ module _ {K S : Type 0} (o : Ops K S) (b : Image K) (s : TileShape) (rect : Rect
     halted : (inside b rect && leb (area rect) (length buf)) ≡ false → (buf ≡ filled o b rect buf) × ((st : State) → st ≡ prepared b s rect (length buf) st)
     halted h = (sym (cond-false (inside b rect && leb (area rect) (length buf)) _ _ h), λ st. sym (cond-false (inside b rect && leb (area rect) (length buf)) _ _ h))
 
-    pub not_inside : (b.width < rect.left + rect.width) ⊎ (b.height < rect.top + rect.height)
-        → (refused 10 [] ≡ answer b rect (length buf)) × (buf ≡ filled o b rect buf) × ((st : State) → st ≡ prepared b s rect (length buf) st)
-    not_inside h =
-        let out : inside b rect ≡ false = ⊎_elim (λ l. and_left _ _ (lt-leb _ _ l)) (λ l. and_right _ _ (lt-leb _ _ l)) h in
-        let e = halted (and_left (inside b rect) (leb (area rect) (length buf)) out) in
-        (sym (cond-false (inside b rect) _ _ out), e.0, e.1)
-
-    pub too_short : rect.left + rect.width ≤ b.width → rect.top + rect.height ≤ b.height → length buf < area rect
-        → (refused 11 [] ≡ answer b rect (length buf)) × (buf ≡ filled o b rect buf) × ((st : State) → st ≡ prepared b s rect (length buf) st)
-    too_short x y l =
-        let in-it : inside b rect ≡ true = and_from _ _ (le-leb _ _ x) (le-leb _ _ y) in
-        let short : leb (area rect) (length buf) ≡ false = lt-leb _ _ l in
-        let e = halted (and_right (inside b rect) (leb (area rect) (length buf)) short) in
-        (sym (cond-true (inside b rect) _ _ in-it ∙ cond-false (leb (area rect) (length buf)) _ _ short), e.0, e.1)
+    -- refused with 10 or 11, and nothing is touched
+    pub not_admitted : (e : Refusal) → Admitted b.width b.height rect (length buf) (Err e)
+        → (told e ≡ answer b rect (length buf)) × (buf ≡ filled o b rect buf) × ((st : State) → st ≡ prepared b s rect (length buf) st)
+    not_admitted e h = let k = halted h.0 in (refused_answer b rect (length buf) e h, k.0, k.1)
 
 -- the slots with another count of bypasses
 abbrev pub counting : Tiles → ℕ → Tiles

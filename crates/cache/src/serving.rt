@@ -65,12 +65,7 @@ impl<P: Picture> Picture for Cache<P> {
     {
         self.count = self.count.saturating_add(1);
         let size = self.below.size();
-        if rect.left + rect.width > size.width || rect.top + rect.height > size.height {
-            return Err(Refusal::NotInside);
-        }
-        if rect.area() > buffer.len() {
-            return Err(Refusal::BufferTooShort);
-        }
+        rect.admitted(size.width, size.height, buffer.len())?;
         match self.walk(size, rect, buffer) {
             Ok(()) => Ok(()),
             Err(_) => {

@@ -1,16 +1,19 @@
 -- A rectangle served row by row.
-use Rattle.std.proofs.Common.{◌≡◌, ℕ, ◌+◌, ◌-◌, ◌*◌, ◌/◌, ◌<◌, ◌≤◌, true, ◌&&◌, leb, List, ◌++◌, map, length, get_or, take, drop, Some, sym, ap, ◌∙◌, subst, ⊎_elim, mul-le-mul_right, mul_comm, add-mul, one-mul, arith}
+use Rattle.std.proofs.Common.{◌≡◌, ℕ, ◌+◌, ◌-◌, ◌*◌, ◌/◌, ◌<◌, ◌≤◌, Bool, true, false, cond, Err, ◌&&◌, leb, List, [], ◌++◌, map, length, get_or, take, drop, Some, sym, refl, ap, ◌∙◌, subst, ⊎_elim, mul-le-mul_right, mul_comm, add-mul, one-mul, arith}
 use borrow.Rule.Slice.PartMut.{put_mid, post_of}
 use Rattle.std.proofs.lemmas.List.{get_or_append_left, get_or-append_right, get_or-take, length-take-le, take-append-drop}
-use Rattle.std.proofs.lemmas.Bool.{and_from, le-leb, cond-true, cases_lt}
+use Rattle.std.proofs.lemmas.Bool.{and_from, le-leb, cond-true, cond-false, cases_lt}
 use Rattle.std.proofs.lemmas.Nat.{div-mul-add, mod-mul-add}
 use Rattle.std.proofs.lemmas.List.FromFn.{fill_by_all}
 use Rattle.std.specs.List.{range_with_len}
 use Rattle.pixel.specs.Ops.{Ops}
 use Rattle.picture.specs.declared.rect.Rect.{Rect}
 use Rattle.picture.specs.Places.{Place, pixel, hole, first_fault}
+use Rattle.picture.specs.declared.fault.Refusal.{Refusal}
+use Rattle.picture.specs.Refusals.{refused, told}
+use Rattle.std.proofs.lemmas.Bool.Decides.{nat_tests}
 use Rattle.picture.specs.Images.{Image}
-use Rattle.picture.specs.Prepare.{area, within, inside, nth, lined, holed, answer, put, code_at, coded, Shown, filled}
+use Rattle.picture.specs.Prepare.{Admitted, area, within, inside, nth, lined, holed, answer, put, code_at, coded, Shown, filled}
 use Rattle.picture.proofs.Faults.{shown_clean}
 
 -- a part of a list is written over
@@ -45,6 +48,20 @@ inside_is i r W H a b h = subst (λ w. within w i.height r ≡ true) a (subst (�
 -- inside, by its sides
 pub inside_by : {K : Type 0} (i : Image K) (r : Rect) → r.left + r.width ≤ i.width → r.top + r.height ≤ i.height → inside i r ≡ true
 inside_by i r a b = and_from (leb (r.left + r.width) i.width) (leb (r.top + r.height) i.height) (le-leb _ _ a) (le-leb _ _ b)
+
+pub within_across : (W H : ℕ) (r : Rect) → within W H r ≡ true → r.left + r.width ≤ W
+within_across W H r h = grind (arith, nat_tests)
+
+pub within_down : (W H : ℕ) (r : Rect) → within W H r ≡ true → r.top + r.height ≤ H
+within_down W H r h = grind (arith, nat_tests)
+
+cond_and : {X : Type 0} (a b : Bool) (x y z : X) → (a && b) ≡ false → cond a y z ≡ cond a (cond b x y) z
+cond_and true b x y z h = sym (cond-false b x y h)
+cond_and false b x y z h = refl
+
+-- what is not admitted is refused so, and nothing is filled
+pub refused_answer : {K : Type 0} (i : Image K) (r : Rect) (n : ℕ) (e : Refusal) → Admitted i.width i.height r n (Err e) → told e ≡ answer i r n
+refused_answer i r n e h = h.1 ∙ cond_and (inside i r) (leb (area r) n) (holed (first_fault (nth i r) (area r))) (refused 11 []) (refused 10 []) h.0
 
 -- inside, and with room for it, a prepare tells the first hole
 pub answer_in : {K : Type 0} (i : Image K) (r : Rect) (n : ℕ) → inside i r ≡ true → area r ≤ n → answer i r n ≡ holed (first_fault (nth i r) (area r))
