@@ -53,21 +53,6 @@ copies_spread c W H p X Y sx sy at e₀ e₁ e₂ e₃ e₄ w h each lx ly = rec
   steady = record { base = omega arith; right = omega arith; left = omega arith; down = omega (arith, mul-le-mul_right c.at.width ly, one-mul c.at.width, c.at.across); up = omega arith };
 }
 
--- mirrored
-pub copies_mirrored : (c : Carry) (W H : ℕ) (p : Rect) → p.left + p.width ≤ W → p.top + p.height ≤ H → c.at.left ≡ W - p.left - p.width → c.at.top ≡ p.top → c.at.width ≡ p.width → c.at.height ≡ p.height
-    → c.base ≡ p.width - 1 → c.right ≡ 0 → c.left ≡ 1 → c.down ≡ p.width → c.up ≡ 0 → Copies c W H p (λ u v. W - 1 - u) (λ u v. v)
-copies_mirrored c W H p x y l t w h e₀ e₁ e₂ e₃ e₄ = record {
-  inside = record { across = omega arith; down = omega arith };
-  each = λ i j li lj.
-      let m₁ : i * c.right ≡ 0 = ap (λ z. i * z) e₁ ∙ omega arith in
-      let m₂ : i * c.left ≡ i = ap (λ z. i * z) e₂ ∙ omega arith in
-      let m₃ : j * c.down ≡ j * c.at.width = ap (λ z. j * z) (e₃ ∙ sym w) in
-      let m₄ : j * c.up ≡ 0 = ap (λ z. j * z) e₄ ∙ omega arith in
-      stops c i j _ _ (p.width - 1 - i) j (omega arith) (omega arith) (omega arith) (omega arith) (omega arith) (omega arith) (omega arith);
-  wide = λ a b. one_place c (w ∙ a) (h ∙ b);
-  steady = record { base = omega (arith, p.across, p.down); right = omega (arith, p.across, p.down); left = omega (arith, p.across, p.down); down = omega (arith, p.across, p.down); up = omega (arith, p.across, p.down) };
-}
-
 -- upside down
 pub copies_upturned : (c : Carry) (W H : ℕ) (p : Rect) → p.left + p.width ≤ W → p.top + p.height ≤ H → c.at.left ≡ p.left → c.at.top ≡ H - p.top - p.height → c.at.width ≡ p.width → c.at.height ≡ p.height
     → c.base ≡ (p.height - 1) * p.width → c.right ≡ 1 → c.left ≡ 0 → c.down ≡ 0 → c.up ≡ p.width → Copies c W H p (λ u v. u) (λ u v. H - 1 - v)
@@ -102,21 +87,6 @@ copies_quarter c W H p x y l t w h e₀ e₁ e₂ e₃ e₄ = record {
       stops c i j _ _ j (p.width - 1 - i) (omega arith) (omega arith) (omega arith) (omega arith) (omega arith) (omega arith) (omega arith);
   wide = λ a b. one_place c (w ∙ b) (h ∙ a);
   steady = record { base = omega (arith, mul-le (p.width - 1) p.height 65535 65535 (omega (arith, p.across)) (omega (arith, p.down))); right = omega (arith, p.across, p.down); left = omega (arith, p.across, p.down); down = omega (arith, p.across, p.down); up = omega (arith, p.across, p.down) };
-}
-
--- a quarter to the left
-pub copies_back : (c : Carry) (W H : ℕ) (p : Rect) → p.left + p.width ≤ H → p.top + p.height ≤ W → c.at.left ≡ W - p.top - p.height → c.at.top ≡ p.left → c.at.width ≡ p.height → c.at.height ≡ p.width
-    → c.base ≡ p.height - 1 → c.right ≡ p.height → c.left ≡ 0 → c.down ≡ 0 → c.up ≡ 1 → Copies c W H p (λ u v. W - 1 - v) (λ u v. u)
-copies_back c W H p x y l t w h e₀ e₁ e₂ e₃ e₄ = record {
-  inside = record { across = omega arith; down = omega arith };
-  each = λ i j li lj.
-      let m₁ : i * c.right ≡ i * c.at.width = ap (λ z. i * z) (e₁ ∙ sym w) in
-      let m₂ : i * c.left ≡ 0 = ap (λ z. i * z) e₂ ∙ omega arith in
-      let m₃ : j * c.down ≡ 0 = ap (λ z. j * z) e₃ ∙ omega arith in
-      let m₄ : j * c.up ≡ j = ap (λ z. j * z) e₄ ∙ omega arith in
-      stops c i j _ _ (p.height - 1 - j) i (omega arith) (omega arith) (omega arith) (omega arith) (omega arith) (omega arith) (omega arith);
-  wide = λ a b. one_place c (w ∙ b) (h ∙ a);
-  steady = record { base = omega (arith, p.across, p.down); right = omega (arith, p.across, p.down); left = omega (arith, p.across, p.down); down = omega (arith, p.across, p.down); up = omega (arith, p.across, p.down) };
 }
 
 -- a place of the i-th of some boxes of f places

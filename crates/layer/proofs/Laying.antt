@@ -1,5 +1,5 @@
 -- Parts of a rectangle, laid one beside another.
-use Rattle.std.proofs.Common.{◌≡◌, ℕ, ◌+◌, ◌-◌, ◌*◌, ◌/◌, ◌%◌, ◌<◌, ◌≤◌, ◌⊎◌, List, ◌++◌, length, get_or, take, sym, refl, ap, ◌∙◌, subst, ⊎_elim, arith, rules}
+use Rattle.std.proofs.Common.{◌≡◌, ℕ, ◌+◌, ◌-◌, ◌*◌, ◌/◌, ◌%◌, ◌<◌, ◌≤◌, ◌⊎◌, List, ◌++◌, length, get_or, take, sym, ap, ◌∙◌, subst, ⊎_elim, arith, rules}
 use borrow.Rule.Slice.PartMut.{post_of, put_mid}
 use Rattle.std.proofs.lemmas.List.{get_or_append_left, get_or-append_right, get_or-drop, get_or-take, length-take-le}
 use Rattle.std.proofs.lemmas.Slice.{drop-put_mid}
@@ -25,9 +25,6 @@ pub record Held (r : Rect) (x y w h : ℕ) : Type 0 where
 
 pub held_within : (r : Rect) (x y w h u v : ℕ) → Held r x y w h → Among x y w h u v → Within r u v
 held_within r x y w h u v k a = record { left = omega (arith, k.left, a.left); top = omega (arith, k.top, a.top); right = omega (arith, k.right, a.right); bottom = omega (arith, k.bottom, a.bottom) }
-
-pub laid_no_rows : (r : Rect) (x y w : ℕ) (P : Marks) (t : List ℕ) → Laid r x y w 0 P t t
-laid_no_rows r x y w P t = record { inside = λ u v a. absurd (omega (arith, a.top, a.bottom)); outside = λ u v i n. refl }
 
 -- two places of a rectangle at the same spot
 same_spot : (r : Rect) (u v x y : ℕ) → Within r u v → Within r x y → spot r u v ≡ spot r x y → (u ≡ x) × (v ≡ y)
@@ -119,6 +116,3 @@ laid_above r x y w a b P t₀ t₁ t₂ k one two = record {
 -- what is said of a part may be said in other words
 pub laid_as : (r : Rect) (x y w h : ℕ) (P Q : Marks) (t₀ t₁ : List ℕ) → ((u v c : ℕ) → Among x y w h u v → P u v c → Q u v c) → Laid r x y w h P t₀ t₁ → Laid r x y w h Q t₀ t₁
 laid_as r x y w h P Q t₀ t₁ f l = record { inside = λ u v a. f u v _ a (l.inside u v a); outside = l.outside }
-
-pub laid_height : (r : Rect) (x y w h n : ℕ) (P : Marks) (t₀ t₁ : List ℕ) → h ≡ n → Laid r x y w h P t₀ t₁ → Laid r x y w n P t₀ t₁
-laid_height r x y w h n P t₀ t₁ e l = subst (λ (k : ℕ). Laid r x y w k P t₀ t₁) e l

@@ -100,6 +100,3 @@ pub told_as : {A B : Type 0} (r : Result Unit Undrawn) (x : Result A Fault) (y :
 told_as (Ok u) x y h t = tt
 told_as (Err Uncut) x y h t = t
 told_as (Err (Hole f)) x y h t = h f t
-
-pub told_hole : {A : Type 0} (r : Result Unit Undrawn) (f : Fault) (x : Result A Fault) → r ≡ Err (Hole f) → Err f ≡ x → Told r x
-told_hole r f x e h = subst (λ (z : Result Unit Undrawn). Told z x) (sym e) h

@@ -1,5 +1,5 @@
 -- A prepare of a layer, by pieces or by rows.
-use Rattle.std.proofs.Common.{◌≡◌, ℕ, zero, suc, ◌+◌, ◌-◌, ◌*◌, ◌/◌, ◌%◌, ◌^◌, ◌<◌, ◌≤◌, List, [], ◌++◌, map, length, get_or, drop, replicate, Some, None, Option, Ok, Err, Result, true, is_ok, refl, sym, ap, ◌∙◌, mul_comm, length-append, length-drop, arith, rules}
+use Rattle.std.proofs.Common.{◌≡◌, ℕ, zero, suc, ◌+◌, ◌-◌, ◌*◌, ◌/◌, ◌%◌, ◌^◌, ◌<◌, ◌≤◌, List, [], ◌++◌, map, length, get_or, drop, replicate, Some, None, Option, Ok, Err, Result, true, is_ok, refl, sym, ap, ◌∙◌, mul_comm, length-append, length-drop, arith}
 use Rattle.std.proofs.lemmas.Nat.{div-add-mod', div_below, mod_below}
 use Rattle.std.proofs.lemmas.List.{drop_at, get_or_append_left}
 use Rattle.std.specs.List.{range_with_len}
@@ -66,16 +66,6 @@ raised_grows (suc n) c h = let r = raised_grows n c h in let a : c ≤ raised n 
 
 pub never_falls : (n c d : ℕ) → d ≡ raised n c → c < 2 ^ 64 → c ≤ d
 never_falls n c d e h = omega (arith, (raised_grows n c h).0)
-
-module _ {K S : Type 0} (o : Ops K S) (b : Image K) (r : Rect) (t : List ℕ) where
-  pub refused_across : b.width < r.left + r.width → (refused 10 [] ≡ answer b r (length t)) × (t ≡ filled o b r t)
-  refused_across h = (search rules, search rules)
-
-  pub refused_down : b.height < r.top + r.height → (refused 10 [] ≡ answer b r (length t)) × (t ≡ filled o b r t)
-  refused_down h = (search rules, search rules)
-
-  pub refused_short : r.left + r.width ≤ b.width → r.top + r.height ≤ b.height → length t < area r → (refused 11 [] ≡ answer b r (length t)) × (t ≡ filled o b r t)
-  refused_short x y h = (search rules, search rules)
 
 pub ok_of : (r : Result Unit Fault) → is_ok r ≡ true → r ≡ Ok tt
 ok_of (Ok u) e = refl

@@ -61,9 +61,6 @@ module _ {K S : Type 0} (o : Ops K S) where
   pub downward_more : (p : ℕ → K) (w : ℕ → ℤ) (a q : ℕ) (s : S) (r : ℕ) → downward o p w a q s (r + 1) ≡ o.more (downward o p w a q s r) (p (r * a + q)) (w (r * a + q))
   downward_more p w a q s r = rw add-one
 
-  pub columned_more : (p : ℕ → K) (w : ℕ → ℤ) (a b q : ℕ) → columned o p w a b (q + 1) ≡ downward o p w a q (columned o p w a b q) b
-  columned_more p w a b q = rw add-one
-
   pub or_black_is : (c : Option K) (d k : K) → c ≡ Some k → or_black d c ≡ k
   or_black_is c d k e = ap (or_black d) e
 

@@ -42,10 +42,6 @@ module _ {K S : Type 0} (o : Ops K S) where
   shows_halves a b (Across n) r p q s t₀ t₁ t₂ e k h = shows_beside a b r p q s n t₀ t₁ t₂ e k h
   shows_halves a b (Down n) r p q s t₀ t₁ t₂ e k h = shows_above a b r p q s n t₀ t₁ t₂ e k h
 
-  -- after what left the buffer as it was
-  pub shows_after : (a b : Image K) (r p : Rect) (t₀ t₁ t₂ : List ℕ) → a ≡ b → t₁ ≡ t₀ → Shows o b r p t₁ t₂ → Shows o a r p t₀ t₂
-  shows_after a b r p t₀ t₁ t₂ e h l = subst (λ (t : List ℕ). Shows o a r p t t₂) h (subst (λ (i : Image K). Shows o i r p t₁ t₂) (sym e) l)
-
 -- a piece of what needs nothing needs nothing
 pub needless_part : (φ : ℕ → ℕ → Formula) (p q : Rect) → Part p q → Needless φ p → Needless φ q
 needless_part φ p q k n i j li lj =

@@ -78,6 +78,7 @@ pub(crate) fn lay<D: Draw>(draw: &D, codes: &[u64], piece: Piece, buffer: &mut [
     ensures { Laid piece.whole piece.part.left piece.part.top piece.part.width piece.part.height (λ u v c. c ≡ D.drawn draw.now codes.now (u - piece.part.left) (v - piece.part.top)) buffer.old buffer.new }
 {
     let wide = piece.part.width as usize;
+    // by row and slice, since behind `chunks_mut` a proof knows nothing of the elements
     for j in 0..piece.part.height {
         let from = piece.row(j);
         lay_row(draw, codes, j, &mut buffer[from..from + wide]);

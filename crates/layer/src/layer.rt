@@ -4,6 +4,7 @@ use crate::over::Over;
 use picture::Picture;
 
 /// How many codes of the picture below are held at a time: as many as a sum takes.
+// In a fixed array: the engine's crates allocate nothing.
 pub(crate) const ROOM: usize = 4096;
 
 /// A step laid over a picture.

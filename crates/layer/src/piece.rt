@@ -5,6 +5,7 @@ ghost use Rattle.layer.specs.Laid.{Part};
 use picture::Rect;
 
 /// A part of a rectangle.
+// The rectangle's buffer is no field of it: where one now reads `room`, a struct that lends the buffer needs a clause on the reference's name.
 #[derive(Clone, Copy)]
 pub(crate) struct Piece {
     pub whole: Rect,

@@ -4,6 +4,8 @@ ghost use Rattle.layer.specs.Spreads.{Spreads, Reaches};
 
 use crate::spread::{Reach, Spread};
 
+// The places of a side go by two numbers, since a struct of them would be made of a part's numbers for each call and be taken apart in it.
+
 /// How `count` places from `from` on fall on a side below that an embedding moves by `offset`; nothing, if they fall on both sides of an edge.
 pub(crate) fn spread(from: u32, offset: i32, count: u32, side: u32) -> Option<Spread>
     requires near { unsigned_abs offset ≤ largest }

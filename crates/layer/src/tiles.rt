@@ -19,6 +19,7 @@ impl<P: Picture> Layer<P> {
         ensures kept { Kept P.Pixel.ops P.model P.count self.old self.new }
     {
         let wide = piece.part.width as usize;
+        // by row and slice, since behind `chunks_mut` a proof knows nothing of the elements
         for j in 0..piece.part.height {
             let from = piece.row(j);
             let row = &mut buffer[from..from + wide];
