@@ -42,13 +42,7 @@ impl<P: Picture> Layer<P> {
     {
         self.count = self.count.saturating_add(1);
         let size = self.over.shown();
-        if rect.left + rect.width > size.width || rect.top + rect.height > size.height {
-            return Err(Refusal::NotInside);
-        }
-        let n = rect.area();
-        if n > buffer.len() {
-            return Err(Refusal::BufferTooShort);
-        }
+        let n = rect.admitted(size.width, size.height, buffer.len())?;
         let piece = Piece {
             whole: rect,
             part: rect,

@@ -1,7 +1,7 @@
 use Rattle.std.proofs.Common.{◌≡◌, ◌+◌, ◌≤◌, length, sym, ap, ◌∙◌, arith, rules}
 use Rattle.picture.specs.Prepare.{area, nth, up}
 use Rattle.picture.specs.Places.{first_fault}
-use Rattle.picture.proofs.Serving.{answer_is}
+use Rattle.picture.proofs.Serving.{answer_is, within_across, within_down}
 use Rattle.layer.specs.Layers.{model_of}
 use Rattle.layer.specs.Placing.{kept_follows, kept_shows, stood_high, stood_wide}
 use Rattle.std.proofs.lemmas.List.{length-take-le}
@@ -21,10 +21,11 @@ returns-then-is_ok g c =
     let r = c.args.rect in
     let t = c.args.buffer.now in
     let k = c.tile.ensures.kept in
-    let x : r.left + r.width ≤ i.width = omega (arith, c.shown-size.ensures.width, stood_wide b l.over.step l.over.size l.stands) in
-    let y : r.top + r.height ≤ i.height = omega (arith, c.shown-size.ensures.height, stood_high b l.over.step l.over.size l.stands) in
-    let n : length c.tile.new.buffer ≡ c.area-n.result = c.tile.auto.buffer ∙ length-take-le c.area-n.result t c.if-n-buffer.false in
-    let s = served_pieces o i r _ t c.tile.new.buffer c.area-n.result x y c.area-n.ensures c.if-n-buffer.false n (c.tile.ensures.laid (ok_of _ (sym c.is_ok.ensures.value ∙ c.if-is_ok.true))) in
+    let x : r.left + r.width ≤ i.width = omega (arith, within_across c.shown-size.result.width c.shown-size.result.height r c.in_ok-n.ensures.1, c.shown-size.ensures.width, stood_wide b l.over.step l.over.size l.stands) in
+    let y : r.top + r.height ≤ i.height = omega (arith, within_down c.shown-size.result.width c.shown-size.result.height r c.in_ok-n.ensures.1, c.shown-size.ensures.height, stood_high b l.over.step l.over.size l.stands) in
+    let q : c.in_ok-n.n ≤ length t = omega (arith, c.in_ok-n.ensures.0, c.in_ok-n.ensures.2) in
+    let n : length c.tile.new.buffer ≡ c.in_ok-n.n = c.tile.auto.buffer ∙ length-take-le c.in_ok-n.n t q in
+    let s = served_pieces o i r _ t c.tile.new.buffer c.in_ok-n.n x y c.in_ok-n.ensures.0 q n (c.tile.ensures.laid (ok_of _ (sym c.is_ok.ensures.value ∙ c.if-is_ok.true))) in
     let up_one : c.saturating_add-self.result ≡ up l.count = search rules in
     record {
       prepared = record { answers = s.0; fills = s.1; counts = sym k.count ∙ up_one; keeps = sym (kept_shows o model count _ c.tile.new.self k) };
@@ -49,11 +50,12 @@ returns g c =
     let r = c.args.rect in
     let t = c.args.buffer.now in
     let k = c.tile.ensures.kept in
-    let x : r.left + r.width ≤ i.width = omega (arith, c.shown-size.ensures.width, stood_wide b l.over.step l.over.size l.stands) in
-    let y : r.top + r.height ≤ i.height = omega (arith, c.shown-size.ensures.height, stood_high b l.over.step l.over.size l.stands) in
-    let z : area r ≤ length t = omega (arith, c.area-n.ensures) in
-    let n : length c.tile.new.buffer ≡ c.area-n.result = c.tile.auto.buffer ∙ length-take-le c.area-n.result t c.if-n-buffer.false in
-    let d = same_rest t c.tile.new.buffer c.area-n.result (area r) c.area-n.ensures c.if-n-buffer.false n in
+    let x : r.left + r.width ≤ i.width = omega (arith, within_across c.shown-size.result.width c.shown-size.result.height r c.in_ok-n.ensures.1, c.shown-size.ensures.width, stood_wide b l.over.step l.over.size l.stands) in
+    let y : r.top + r.height ≤ i.height = omega (arith, within_down c.shown-size.result.width c.shown-size.result.height r c.in_ok-n.ensures.1, c.shown-size.ensures.height, stood_high b l.over.step l.over.size l.stands) in
+    let z : area r ≤ length t = c.in_ok-n.ensures.2 in
+    let q : c.in_ok-n.n ≤ length t = omega (arith, c.in_ok-n.ensures.0, c.in_ok-n.ensures.2) in
+    let n : length c.tile.new.buffer ≡ c.in_ok-n.n = c.tile.auto.buffer ∙ length-take-le c.in_ok-n.n t q in
+    let d = same_rest t c.tile.new.buffer c.in_ok-n.n (area r) c.in_ok-n.ensures.0 q n in
     let v = ap (λ m. m.shown) (kept_shows o model count _ c.tile.new.self k) in
     let s = served_rows o i r _ _ t _ c.serve.new.buffer x y z d.0 v d.1 c.serve.ensures.answer c.serve.ensures.buffer in
     let j = kept_follows o model count _ c.tile.new.self c.serve.new.rows k c.serve.ensures.same in
