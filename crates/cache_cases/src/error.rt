@@ -16,7 +16,7 @@ impl From<Refusal> for CaseError {
 
 impl<T: Drop> From<Refused<T>> for CaseError {
     fn from(refused: Refused<T>) -> CaseError {
-        CaseError::Refused(refused.refusal)
+        CaseError::Refused(Refusal::from(refused))
     }
 }
 

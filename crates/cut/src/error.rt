@@ -19,7 +19,7 @@ impl From<Refusal> for CutError {
 
 impl<T: Drop> From<Refused<T>> for CutError {
     fn from(refused: Refused<T>) -> CutError {
-        CutError::Refused(refused.refusal)
+        CutError::Refused(Refusal::from(refused))
     }
 }
 

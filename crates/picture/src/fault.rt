@@ -99,3 +99,12 @@ pub struct Refused<T> {
     pub back: T,
     pub refusal: Refusal,
 }
+
+/// Why it was refused, where what comes back is let go.
+impl<T: Drop> From<Refused<T>> for Refusal {
+    ghost from_gives = { λ r refusal. refusal ≡ r.refusal };
+
+    fn from(refused: Refused<T>) -> Refusal {
+        refused.refusal
+    }
+}

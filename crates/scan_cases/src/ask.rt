@@ -41,10 +41,9 @@ impl Ask {
         header: u64,
         buffer: &mut [u64],
     ) -> Opened {
-        let prepared = match Rect::new(self.left, self.top, self.width, self.height) {
-            Ok(rect) => picture.prepare(rect, buffer),
-            Err(refusal) => Err(refusal),
-        };
+        let prepared = Rect::new(self.left, self.top, self.width, self.height).and_then(
+            |rect| picture.prepare(rect, buffer),
+        );
         Opened {
             size: picture.size(),
             header,

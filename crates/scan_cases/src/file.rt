@@ -7,13 +7,9 @@ use store::{Bytes, Joined, Sectors, Store};
 
 /// Opens the picture that a store has, and asks it.
 fn run<S: Store + Drop, K: Kind>(store: S, number: u32, ask: Ask, buffer: &mut [u64]) -> Outcome {
-    match FileSource::<S, K>::open(store, number) {
-        Ok(mut file) => {
-            let header = file.raster().start;
-            Ok(ask.answered_by(&mut file, header, buffer))
-        }
-        Err(refused) => Err(refused.refusal),
-    }
+    let mut file = FileSource::<S, K>::open(store, number)?;
+    let header = file.raster().start;
+    Ok(ask.answered_by(&mut file, header, buffer))
 }
 
 /// The same with the store that has these bytes in this form.

@@ -36,8 +36,6 @@ pub fn run_memory<K: Kind>(codes: &[u64], frame: Frame, ask: Ask, buffer: &mut [
         number,
     } = frame;
     let codes = CodeSlice { codes };
-    match MemorySource::<CodeSlice, K>::new(codes, width, height, maxval, number) {
-        Ok(mut memory) => Ok(ask.answered_by(&mut memory, 0, buffer)),
-        Err(refused) => Err(refused.refusal),
-    }
+    let mut memory = MemorySource::<CodeSlice, K>::new(codes, width, height, maxval, number)?;
+    Ok(ask.answered_by(&mut memory, 0, buffer))
 }
