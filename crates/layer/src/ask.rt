@@ -14,6 +14,7 @@ pub(crate) fn ask<P: Picture>(below: &mut P, at: Rect, codes: &mut [u64]) -> Res
     ensures keeps { P.model below.new ≡ P.model below.old }
     ensures counts { P.count below.new ≡ up (P.count below.old) }
 {
+    // a match, since no other refusal can come here
     match below.prepare(at, codes) {
         Ok(()) => Ok(()),
         Err(Refusal::Hole(fault)) => Err(fault),

@@ -43,6 +43,7 @@ impl<P: Picture> Layer<P> {
             self.tile(Piece { whole, part: near }, buffer)?;
             return self.tile(Piece { whole, part: far }, buffer);
         }
+        // a match, since both arms change the layer and the buffer, which a closure of `or_else` would hold
         match self.block(piece, buffer) {
             Ok(()) => Ok(()),
             Err(_) => self.exact(piece, buffer),
