@@ -1,3 +1,5 @@
+ghost use Rattle.std.specs.Prelude.{◌≤◌, length, IfOk};
+
 use crate::words::{Command, Drag};
 use picture::{Picture, Rect, Refusal};
 use pixel::Kind;
@@ -46,7 +48,9 @@ fn prepared<P: Picture>(
     drag: Drag,
     turn: u32,
     buffer: &mut [u64],
-) -> Result<usize, Refusal> {
+) -> Result<usize, Refusal>
+    ensures { IfOk result (λ n. n ≤ length buffer.new) }
+{
     let left = drag.left.saturating_add(turn.saturating_mul(drag.across));
     let top = drag.top.saturating_add(turn.saturating_mul(drag.down));
     let rect = Rect::new(left, top, drag.width, drag.height)?;
