@@ -1,6 +1,7 @@
 -- Laws of the machine: no tile is listed twice, the list is not longer than the slots,
 -- each prepare below is a fetch's or one of a bypass's two, and what is listed is not prepared again.
-use Rattle.std.proofs.Common.{◌≡◌, ℕ, zero, suc, ◌+◌, ◌-◌, ◌*◌, ◌^◌, ◌<◌, Bool, true, false, cond, ◌&&◌, leb, List, [], ◌∷◌, take, sym, refl, ap, ◌∙◌, subst, ⊎_elim, arith}
+use Rattle.std.proofs.Common.{◌≡◌, ℕ, zero, suc, ◌+◌, ◌-◌, ◌*◌, ◌^◌, ◌<◌, ◌≤◌, Bool, true, false, cond, ◌&&◌, leb, List, [], ◌∷◌, length, take, sym, refl, ap, ◌∙◌, subst, ⊎_elim, arith}
+use Rattle.std.proofs.lemmas.List.{length-take}
 use Rattle.std.proofs.lemmas.Bool.{cond-true, cond-false, cond_both, cases_Bool, both_ways}
 use Rattle.picture.specs.declared.rect.Rect.{Rect}
 use Rattle.picture.specs.Images.{Image}
@@ -44,6 +45,15 @@ once_take zero ts h = tt
 once_take (suc n) [] h = tt
 once_take (suc n) (x ∷ xs) h = (lists-take n xs x h.0, once_take n xs h.1)
 
+-- a listed tile that moves to the front
+length_without : (ts : List Tile) (t : Tile) → lists ts t ≡ true → suc (length (without ts t)) ≡ length ts
+length_without [] t e = absurd (both_ways false refl e)
+length_without (x ∷ xs) t e =
+    ⊎_elim
+    (λ y. ap (λ l. suc (length l)) (cond-true (same x t) xs (x ∷ without xs t) y))
+    (λ n. ap (λ l. suc (length l)) (cond-false (same x t) xs (x ∷ without xs t) n) ∙ ap suc (length_without xs t (sym (cond-false (same x t) true (lists xs t) n) ∙ e)))
+    (cases_Bool (same x t))
+
 lists-kept : (ts : List Tile) (t u : Tile) → same t u ≡ false → lists ts u ≡ true → lists (without ts t) u ≡ true
 lists-kept [] t u d e = absurd (both_ways false refl e)
 lists-kept (x ∷ xs) t u d e =
@@ -62,6 +72,14 @@ lists-moved ts t u e =
     (λ n. cond-false (same t u) true (lists (without ts t) u) n ∙ lists-kept ts t u n e)
     (cases_Bool (same t u))
 
+abbrev OnceIn : Walk → Type 0
+OnceIn (going s) = Once s.tiles
+OnceIn (ended s) = Once s.tiles
+
+abbrev FewIn : ℕ → Walk → Type 0
+FewIn n (going s) = length s.tiles ≤ n
+FewIn n (ended s) = length s.tiles ≤ n
+
 -- a walk that ended has asked once more than it has counted
 abbrev Owes : State → State → Type 0
 Owes s t = t.asked < 2 ^ 64 - 1 → t.fetches < 2 ^ 64 - 1 → t.bypasses < 2 ^ 64 - 1
@@ -77,6 +95,18 @@ QuietIn s (going t) = (t.asked ≡ s.asked) × ((u : Tile) → lists s.tiles u �
 QuietIn s (ended t) = ⊥
 
 module _ (slots : ℕ) (whole : Tile → Bool) where
+  once_visited : (s : State) (t : Tile) → Once s.tiles → OnceIn (visited slots whole s t)
+  once_visited s t h =
+      cond_both (lists s.tiles t) _ _ OnceIn
+      (λ _. (gone s.tiles t h, once_without s.tiles t h))
+      (λ e. cond_both (whole t) _ _ OnceIn (λ _. once_take slots (t ∷ s.tiles) (e, h)) (λ _. h))
+
+  few_visited : (s : State) (t : Tile) → length s.tiles ≤ slots → FewIn slots (visited slots whole s t)
+  few_visited s t h =
+      cond_both (lists s.tiles t) _ _ (FewIn slots)
+      (λ e. omega (arith, length_without s.tiles t e))
+      (λ _. cond_both (whole t) _ _ (FewIn slots) (λ _. omega (arith, length-take slots (t ∷ s.tiles))) (λ _. h))
+
   accounts_visited : (z s : State) (t : Tile) → Accounts z s → AccountsIn z (visited slots whole s t)
   accounts_visited z s t h =
       cond_both (lists s.tiles t) _ _ (AccountsIn z)
@@ -99,6 +129,14 @@ module _ (slots : ℕ) (whole : Tile → Bool) where
     along zero step = start
     along (suc n) step = along_step (walked slots whole f n s) (f n) (along n (λ k lt. step k (omega arith))) (step n (omega arith))
 
+once_settled : (w : Walk) → OnceIn w → Once (settled w).tiles
+once_settled (going s) h = h
+once_settled (ended s) h = h
+
+few_settled : (n : ℕ) (w : Walk) → FewIn n w → length (settled w).tiles ≤ n
+few_settled n (going s) h = h
+few_settled n (ended s) h = h
+
 accounts_settled : (z : State) (w : Walk) → AccountsIn z w → Accounts z (settled w)
 accounts_settled z (going s) h = h
 accounts_settled z (ended s) h = λ a f b. omega (arith, h (omega arith) f (omega arith))
@@ -111,6 +149,15 @@ module _ {K : Type 0} (b : Image K) (s : TileShape) (rect : Rect) (len : ℕ) (s
   -- behind a prepare, from what holds behind the walk
   by_walk : (Q : State → Type 0) → Q (settled (over_tiles b s rect st)) → Q st → Q (prepared b s rect len st)
   by_walk Q h k = cond_both (inside b rect && leb (area rect) len) _ _ Q (λ _. h) (λ _. k)
+
+  pub once_prepared : Once st.tiles → Once (prepared b s rect len st).tiles
+  once_prepared h =
+      by_walk (λ x. Once x.tiles) (once_settled (over_tiles b s rect st) (along s.slots (whole b s) OnceIn (touched s rect) st h (across s rect * down s rect) (λ k lt v. once_visited s.slots (whole b s) v (touched s rect k)))) h
+
+  pub few_prepared : length st.tiles ≤ s.slots → length (prepared b s rect len st).tiles ≤ s.slots
+  few_prepared h =
+      by_walk (λ x. length x.tiles ≤ s.slots)
+      (few_settled s.slots (over_tiles b s rect st) (along s.slots (whole b s) (FewIn s.slots) (touched s rect) st h (across s rect * down s rect) (λ k lt v. few_visited s.slots (whole b s) v (touched s rect k)))) h
 
   pub accounts_prepared : Accounts st (prepared b s rect len st)
   accounts_prepared =

@@ -72,11 +72,6 @@ module _ {K S : Type 0} (o : Ops K S) (b : Image K) (s : TileShape) (rect : Rect
     halted : (inside b rect && leb (area rect) (length buf)) ≡ false → (buf ≡ filled o b rect buf) × ((st : State) → st ≡ prepared b s rect (length buf) st)
     halted h = (sym (cond-false (inside b rect && leb (area rect) (length buf)) _ _ h), λ st. sym (cond-false (inside b rect && leb (area rect) (length buf)) _ _ h))
 
-    -- refused with 10 or 11, and nothing is touched
-    pub not_admitted : (e : Refusal) → Admitted b.width b.height rect (length buf) (Err e)
-        → (told e ≡ answer b rect (length buf)) × (buf ≡ filled o b rect buf) × ((st : State) → st ≡ prepared b s rect (length buf) st)
-    not_admitted e h = let k = halted h.0 in (refused_answer b rect (length buf) e h, k.0, k.1)
-
 -- the slots with another count of bypasses
 abbrev pub counting : Tiles → ℕ → Tiles
 counting t n = record { held = t.held; len = t.len; entries = t.entries; counts = record { hits = t.counts.hits; fetches = t.counts.fetches; bypasses = n } }

@@ -2,8 +2,13 @@ use cache::TileShape;
 use picture::Refusal;
 use std::alloc::{AllocError, Global};
 
+// By hand, since `to_digit` takes capital letters too, which are no digits here.
 fn digit(b: u8) -> u8 {
-    char::from(b).to_digit(16).map_or(0, |d| (d & 15) as u8)
+    match b {
+        b'0'..=b'9' => b - b'0',
+        b'a'..=b'f' => b - b'a' + 10,
+        _ => 0,
+    }
 }
 
 /// The bytes that a word writes in hexadecimal.

@@ -28,11 +28,20 @@ fn read_and_cut(rt: &HostRuntime) -> Result<(), CutError> {
     }
 }
 
-fn main(rt: HostRuntime) -> io::Result<()> {
-    match read_and_cut(&rt) {
+/// Cuts, and tells a refusal.
+fn cut_or_tell(rt: &HostRuntime) -> io::Result<()> {
+    match read_and_cut(rt) {
         Ok(()) => Ok(()),
         Err(CutError::Refused(refusal)) => rt.println(refusal),
-        Err(CutError::Io(error)) => {
+        Err(CutError::Io(error)) => Err(error),
+    }
+}
+
+// Not shared with the other program: each has words of its own.
+fn main(rt: HostRuntime) -> io::Result<()> {
+    match cut_or_tell(&rt) {
+        Ok(()) => Ok(()),
+        Err(error) => {
             if error.kind() == ErrorKind::OutOfMemory {
                 eprintln!(rt; "cut: there is not enough memory for this picture")?;
             } else {

@@ -20,6 +20,7 @@ fn read_and_tell(rt: &HostRuntime) -> io::Result<()> {
     })
 }
 
+// Not shared with the other program: each has words of its own.
 fn main(rt: HostRuntime) -> io::Result<()> {
     match read_and_tell(&rt) {
         Ok(()) => Ok(()),

@@ -77,6 +77,7 @@ fn judge<S: Store + Drop, K: Kind>(store: S, end: u64) -> Result<Details, Header
     match FileSource::<S, K>::open(store, 0) {
         Ok(mut file) => Ok(tell(&mut file, end)),
         // The refusal names no place: the header is read again for the error, which does.
+        // (As a closure of `map_err`, with `?`, this needs a `requires` that is longer than the match.)
         Err(refused) => Err(read_header(&refused.back, K::mark()).unwrap_err()),
     }
 }

@@ -16,6 +16,7 @@ pub enum Cause {
 
 impl Cause {
     /// The number of a cause, from 1.
+    // a method, which says more than `u8::from`
     pub fn number(self) -> u8
         ensures { result ≡ cause_number self }
     {
@@ -70,6 +71,7 @@ pub enum Refusal {
 
 impl Refusal {
     /// The number of a refusal.
+    // a method, as that of a cause
     pub fn number(self) -> u8
         ensures { result ≡ number_of self }
     {

@@ -41,6 +41,7 @@ fn fill<R: Rows>(rows: &mut R, rect: Rect, buffer: &mut [u64]) -> Result<(), Fau
     ensures same { R.same rows.old rows.new }
 {
     let wide = rect.width as usize;
+    // by slice, since behind `chunks_mut` a proof knows nothing of the codes
     for j in 0..rect.height {
         let from = j as usize * wide;
         rows.row(rect.left, rect.top + j, &mut buffer[from..from + wide])?;

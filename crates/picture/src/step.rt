@@ -42,6 +42,7 @@ pub enum Mask {
 }
 
 /// A step: how one picture is made of another, place by place.
+// A value and not a closure, since steps are chosen at run time, without a heap.
 #[derive(Clone, Copy, PartialEq, Eq, Debug)]
 pub enum Step {
     Same,

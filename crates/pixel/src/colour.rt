@@ -10,6 +10,7 @@ use crate::pixels::Colour;
 use crate::scaling::{add, scaled};
 
 /// A weighted sum of colour pixels, sample by sample.
+// Not one type with `Colour`, which holds bounds of its samples that a sum has not.
 #[derive(Clone, Copy)]
 pub struct ColourSum {
     red: i64,

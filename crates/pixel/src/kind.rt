@@ -11,6 +11,7 @@ pub trait Kind: Copy {
     ghost held: { Self.Sum → ℕ → Type 0 };
 
     /// The second byte of this kind's files, behind `P`.
+    // a number, since it is a byte of the format
     fn mark() -> u8
         ensures { result ≡ ops.mark };
 
@@ -23,6 +24,7 @@ pub trait Kind: Copy {
         ensures { result ≡ slice_index (ops.samples self) index };
 
     /// The number that stands for a pixel in a buffer.
+    // not `From` and `TryFrom`, between which no law can stand
     fn code(self) -> u64
         ensures { result ≡ ops.code self };
 
@@ -49,6 +51,7 @@ pub trait Kind: Copy {
         ensures { result ≡ ops.more sum pixel weight };
 
     /// The pixel of a sum: each sample divided by `scale`, rounded, moved by `offset` and limited to 0 and `maxval`.
+    // three numbers by themselves, since scale and offset are a step's and maxval is the picture's
     fn finish(sum: Self::Sum, scale: u32, offset: i32, maxval: u16) -> Self
         requires room { (n : ℕ) × held sum n × (n ≤ 4096) }
         requires scale { 1 ≤ scale }

@@ -8,6 +8,7 @@ pub struct Grey {
 }
 
 /// A colour pixel: three samples.
+// A type of its own beside `Grey`: an array of one sample or three would lose their names, on which the format's order hangs.
 #[derive(Clone, Copy, PartialEq, Eq, Debug)]
 pub struct Colour {
     pub red: u16,

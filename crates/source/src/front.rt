@@ -31,6 +31,7 @@ pub fn read_header<S: Store>(store: &S, mark: u8) -> Result<Header, HeaderError>
     ensures refused { Refuses mark (beginning (S.at store.now)) result }
     ensures ended { EndsAtLack (capped (S.at store.now)) result }
 {
+    // of fixed length, since the engine allocates nothing
     let mut buffer = [0u8; HEADER_LIMIT];
     let n = front(store, &mut buffer);
     parse(mark, &buffer[..n])

@@ -88,6 +88,7 @@ fn decide(mark: u8, bytes: &[u8]) -> Result<Header, HeaderError>
 }
 
 /// The header that `bytes` begin with, whose mark is `P` and then `mark`.
+// Any byte may be asked for: a type with the marks of two kinds would ask more of the caller.
 pub fn parse(mark: u8, bytes: &[u8]) -> Result<Header, HeaderError>
     ensures automaton { result ≡ header_of mark (take header_limit bytes.now) }
     ensures grammar { Exact mark (take header_limit bytes.now) result }

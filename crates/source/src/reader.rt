@@ -27,6 +27,7 @@ pub enum Field {
 }
 
 /// Where a reader stands.
+// States and a match on them: the automaton of a header's grammar, as the definitions have it.
 #[derive(Clone, Copy, Default)]
 pub enum State {
     /// Right behind the mark.

@@ -25,6 +25,7 @@ fn pixel_code<K: Kind>(pixel: &[u8], wide: bool, maxval: u16) -> Option<u64>
     ensures { result ≡ code_of K.ops wide maxval (slice_index pixel.now) }
 {
     let mut code = 0;
+    // by index, since a kind knows its samples by their number
     for k in 0..K::depth() {
         let value = sample(pixel, k, wide);
         if value > maxval {

@@ -5,7 +5,7 @@ ghost use Rattle.survey.specs.Surveys.{Account, reading, surveyed, up_to};
 use crate::findings::Survey;
 use picture::{Fault, Picture, Rect, Refusal, Size};
 
-/// The longest part of a row that is asked for at once.
+/// The longest part of a row that is asked for at once, into a buffer of fixed length, since the engine allocates nothing.
 const LONGEST: usize = 4096;
 
 /// The part of a row to ask for at a place: as long as the run, the row and the places that are left allow.

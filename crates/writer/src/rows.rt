@@ -38,6 +38,7 @@ impl RowWriter {
     }
 
     /// Writes the next rows, as many as `height` and as are left, at the start of the buffer; answers how many bytes they have. The work buffer holds their codes.
+    // two buffers beside the picture, here and for a tile: the caller lends both
     pub fn strip<P: Picture>(
         &mut self,
         picture: &mut P,

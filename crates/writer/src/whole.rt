@@ -31,6 +31,7 @@ fn put_strips<P: Picture>(
     ensures keeps { P.model picture.new ≡ P.model picture.old }
 {
     let mut end = 0;
+    // a `while`, since the writer knows how many rows a strip had
     while writer.next < writer.size.height {
         end += writer.strip(picture, height, work, &mut out[end..])?;
     }
