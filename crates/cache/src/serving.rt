@@ -66,6 +66,7 @@ impl<P: Picture> Picture for Cache<P> {
         self.count = self.count.saturating_add(1);
         let size = self.below.size();
         rect.admitted(size.width, size.height, buffer.len())?;
+        // a match, since where the walk was refused there is more to do
         match self.walk(size, rect, buffer) {
             Ok(()) => Ok(()),
             Err(_) => {

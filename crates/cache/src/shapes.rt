@@ -12,8 +12,7 @@ impl TileShape {
         if width < 1
             || height < 1
             || width as u64 * height as u64 > PLACES as u64
-            || slots < 1
-            || slots > TILES
+            || !(1..=TILES).contains(&slots)
         {
             return Err(Refusal::OutsideLimits);
         }

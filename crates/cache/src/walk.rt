@@ -13,8 +13,8 @@ use crate::visit::cell;
 use picture::{Picture, Rect, Refusal, Size};
 use pixel::Kind;
 
-// Three numbers and their limits: a struct would be made for each call and taken apart in it.
 /// How many tiles of this side are touched by `count` columns or rows from `from` on.
+// Three numbers and their limits: a struct would be made for each call and taken apart in it.
 fn reach(from: u32, count: u32, side: u32) -> u32
     requires some { 1 ≤ count }
     requires inside { from + count ≤ largest }

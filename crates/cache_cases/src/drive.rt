@@ -1,6 +1,6 @@
 ghost use Rattle.std.specs.Prelude.{◌≤◌, length, IfOk};
 
-use crate::words::{Command, Drag};
+use crate::words::{Command, Drag, Way};
 use picture::{Picture, Rect, Refusal};
 use pixel::Kind;
 
@@ -72,10 +72,10 @@ pub fn drive<P: Picture>(picture: &mut P, commands: &[Command], buffer: &mut [u6
     for command in commands {
         match *command {
             Command::Forget => picture.forget(),
-            Command::There(drag) => for i in 0..drag.turns {
+            Command::Drag(Way::There, drag) => for i in 0..drag.turns {
                 turn(picture, drag, i, buffer, &mut sum);
             },
-            Command::Back(drag) => for i in (0..drag.turns).rev() {
+            Command::Drag(Way::Back, drag) => for i in (0..drag.turns).rev() {
                 turn(picture, drag, i, buffer, &mut sum);
             },
         }

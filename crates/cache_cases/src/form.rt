@@ -20,6 +20,7 @@ struct Outcome {
     lower: Option<Counts>,
 }
 
+/// Writes what a cache has counted.
 fn counts<W: fmt::Write>(f: &mut fmt::Formatter<W>, counts: Counts) -> fmt::Result {
     let Counts {
         hits,
@@ -131,6 +132,7 @@ fn run<P: Picture + Drop>(
     }
 }
 
+/// The run of a line, over the picture that it writes.
 fn run_line(heap: Global, line: &str) -> Result<Outcome, CaseError> {
     let at = Form::of(line).picture_at();
     let bytes = bytes_of(heap, line.split_whitespace().nth(at).unwrap_or(""))?;

@@ -57,18 +57,35 @@ impl Drag {
     }
 }
 
+/// Whether a drag goes from its beginning to its end or back.
+#[derive(Clone, Copy)]
+pub enum Way {
+    There,
+    Back,
+}
+
 /// A command of a run.
 #[derive(Clone, Copy)]
 pub enum Command {
     Forget,
-    There(Drag),
-    Back(Drag),
+    Drag(Way, Drag),
+}
+
+impl Way {
+    /// The way that a word names.
+    fn of(word: &str) -> Option<Way> {
+        match word {
+            "d" => Some(Way::There),
+            "b" => Some(Way::Back),
+            _ => None,
+        }
+    }
 }
 
 /// A drag whose numbers are still being read.
 #[derive(Drop)]
 struct Pending {
-    back: bool,
+    way: Way,
     numbers: Vec<u32>,
 }
 
@@ -79,19 +96,13 @@ pub fn commands(heap: Global, line: &str, skip: usize) -> Result<Vec<Command>, A
     for word in line.split_whitespace().skip(skip) {
         if word == "f" {
             all.push(Command::Forget)?;
-        } else if word == "d" || word == "b" {
-            pending = Some(Pending {
-                back: word == "b",
-                numbers: Vec::new(heap),
-            });
+        } else if let Some(way) = Way::of(word) {
+            let numbers = Vec::new(heap);
+            pending = Some(Pending { way, numbers });
         } else if let Some(drag) = &mut pending {
             drag.numbers.push(number(Some(word)))?;
             if let Some(read) = Drag::of(drag.numbers.as_slice()) {
-                all.push(if drag.back {
-                    Command::Back(read)
-                } else {
-                    Command::There(read)
-                })?;
+                all.push(Command::Drag(drag.way, read))?;
                 pending = None;
             }
         }

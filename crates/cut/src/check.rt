@@ -19,22 +19,21 @@ fn common_rows<P: Picture, Q: Picture<Pixel = P::Pixel>>(
     if second.size() != size {
         return 0;
     }
-    let mut rows: u32 = 0;
-    for _ in 0..size.height.div_ceil(STRIP) {
-        let high = STRIP.min(size.height.saturating_sub(rows));
-        let Ok(rect) = Rect::new(0, rows, size.width, high) else {
-            return rows;
+    for strip in 0..size.height.div_ceil(STRIP) {
+        let top = strip.saturating_mul(STRIP);
+        let high = STRIP.min(size.height.saturating_sub(top));
+        let Ok(rect) = Rect::new(0, top, size.width, high) else {
+            return top;
         };
         let n = rect.area();
         let (Ok(()), Ok(())) = prepare_both(first, second, rect, a, b) else {
-            return rows;
+            return top;
         };
         if a.get(0..n) != b.get(0..n) {
-            return rows;
+            return top;
         }
-        rows = rows.saturating_add(high);
     }
-    rows
+    size.height
 }
 
 impl<'a> Desk<'a> {

@@ -9,7 +9,7 @@ use writer::{RowWriter, begin};
 /// The rows of a strip: as many as a tile of the caches is high, so that each tile is fetched once on the way down.
 pub const STRIP: u32 = 16;
 
-/// How the file by strips went; without a refusal it was finished.
+/// How the file by strips went.
 #[derive(Clone, Copy)]
 pub struct Written {
     pub bytes: u64,
@@ -17,9 +17,8 @@ pub struct Written {
     /// How many rows were written, of how many.
     pub rows: u32,
     pub height: u32,
-    pub refusal: Option<Refusal>,
-    /// The rows that were read back and are as they should be.
-    pub read_back: u32,
+    /// How many rows were read back and are as they should be; or why the file was abandoned.
+    pub read_back: Result<u32, Refusal>,
 }
 
 /// Ends the writer, and says why where rows are left.
@@ -34,14 +33,16 @@ fn end(writer: RowWriter) -> Result<(), Refusal> {
 }
 
 impl<'a> Desk<'a> {
-    /// Writes the rows, strip by strip.
+    /// Writes the header, which is in the buffer, and the rows, strip by strip.
     fn put_rows<P: Picture, W: Write>(
         &mut self,
         picture: &mut P,
         writer: &mut RowWriter,
         file: &mut W,
         written: &mut Written,
+        head: usize,
     ) -> Result<(), CutError> {
+        file.write_all(self.out.as_slice().get(0..head).unwrap_or(&[]))?;
         for _ in 0..written.height.div_ceil(STRIP) {
             let n = writer.strip(
                 picture,
@@ -57,32 +58,28 @@ impl<'a> Desk<'a> {
         Ok(())
     }
 
-    /// Writes the header and the rows, and ends the writer.
+    /// Writes all of the file, and ends the writer.
     fn put_file<P: Picture, W: Write>(
         &mut self,
         picture: &mut P,
+        mut writer: RowWriter,
         file: &mut W,
+        head: usize,
     ) -> Result<Written, CutError> {
-        let (head, mut writer) = begin(picture, self.out.as_mut_slice())?;
         let mut written = Written {
             bytes: head as u64,
             strips: 0,
             rows: 0,
             height: picture.size().height,
-            refusal: None,
-            read_back: 0,
+            read_back: Ok(0),
         };
-        let front = self.out.as_slice().get(0..head).unwrap_or(&[]);
-        let put = match file.write_all(front) {
-            Ok(()) => self.put_rows(picture, &mut writer, file, &mut written),
-            Err(error) => Err(CutError::from(error)),
-        };
-        match put {
-            Ok(()) => written.refusal = end(writer).err(),
+        match self.put_rows(picture, &mut writer, file, &mut written, head) {
+            Ok(()) => written.read_back = end(writer).map(|()| 0),
             Err(CutError::Refused(refusal)) => {
                 writer.abandon();
-                written.refusal = Some(refusal);
+                written.read_back = Err(refusal);
             }
+            // not by `?`, since the writer has to be ended
             Err(error) => {
                 writer.abandon();
                 return Err(error);
@@ -95,13 +92,20 @@ impl<'a> Desk<'a> {
     pub fn write_picture<P: Picture>(&mut self, picture: &mut P) -> Result<Written, CutError> {
         let ending = self.ending;
         let name = format!(in self.rt.alloc(); "turned.{ending}")?;
-        let mut file = fs::create(self.rt, name.as_str())?;
-        let mut written = self.put_file(picture, &mut file)?;
+        let (head, writer) = begin(picture, self.out.as_mut_slice())?;
+        let mut file = match fs::create(self.rt, name.as_str()) {
+            Ok(file) => file,
+            // not by `?`, since the writer has to be ended
+            Err(error) => {
+                writer.abandon();
+                return Err(CutError::from(error));
+            }
+        };
+        let mut written = self.put_file(picture, writer, &mut file, head)?;
         drop(file);
-        if written.refusal.is_some() {
-            fs::remove_file(self.rt, name.as_str())?;
-        } else {
-            written.read_back = self.read_back(picture, name.as_str())?;
+        match written.read_back {
+            Ok(_) => written.read_back = Ok(self.read_back(picture, name.as_str())?),
+            Err(_) => fs::remove_file(self.rt, name.as_str())?,
         }
         Ok(written)
     }

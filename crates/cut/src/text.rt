@@ -37,18 +37,17 @@ impl<'a> Summary<'a> {
             strips,
             rows,
             height,
-            refusal,
             read_back,
         } = self.file;
-        match refusal {
-            None => {
+        match read_back {
+            Ok(read_back) => {
                 writeln!(
                     f,
                     "turned.{ending}: {bytes} bytes, {rows} rows in {strips} strips"
                 )?;
                 writeln!(f, "read back: {read_back} of {height} rows agree")
             }
-            Some(why) => writeln!(
+            Err(why) => writeln!(
                 f,
                 "turned.{ending}: abandoned at row {rows} of {height}, behind {bytes} bytes in {strips} strips: {why}"
             ),
@@ -68,6 +67,7 @@ impl<'a> Summary<'a> {
     }
 }
 
+/// Writes what a cache has counted.
 fn cache<W: fmt::Write>(f: &mut fmt::Formatter<W>, name: &str, counts: Counts) -> fmt::Result {
     let Counts {
         hits,

@@ -48,15 +48,15 @@ impl<'a> fmt::Display for Digits<'a> {
 
 /// Why the header that these bytes begin with was refused.
 #[derive(Clone, Copy)]
-struct Refused<'a> {
+struct BadHeader<'a> {
     bytes: &'a [u8],
     mark: Mark,
     error: HeaderError,
 }
 
-impl<'a> fmt::Display for Refused<'a> {
+impl<'a> fmt::Display for BadHeader<'a> {
     fn fmt<W: fmt::Write>(&self, f: &mut fmt::Formatter<W>) -> fmt::Result {
-        let Refused { bytes, mark, error } = *self;
+        let BadHeader { bytes, mark, error } = *self;
         let number = Refusal::from(error).number();
         write!(f, "refused {number}: ")?;
         match error {
@@ -184,7 +184,7 @@ impl<'a> fmt::Display for Summary<'a> {
         let mark = report.mark;
         match report.finding {
             Ok(details) => Whole { mark, details }.fmt(f),
-            Err(error) => Refused { bytes, mark, error }.fmt(f),
+            Err(error) => BadHeader { bytes, mark, error }.fmt(f),
         }
     }
 }

@@ -71,7 +71,7 @@ pub enum Refusal {
 
 impl Refusal {
     /// The number of a refusal.
-    // a method, as that of a cause
+    // a method, as for `Cause`
     pub fn number(self) -> u8
         ensures { result ≡ number_of self }
     {

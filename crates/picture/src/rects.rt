@@ -11,10 +11,9 @@ impl Rect {
     pub fn new(left: u32, top: u32, width: u32, height: u32) -> Result<Rect, Refusal>
         ensures { RectMade left top width height result }
     {
-        if width < 1
-            || height < 1
-            || width > LIMIT
-            || height > LIMIT
+        let extents = 1..=LIMIT;
+        if !extents.contains(&width)
+            || !extents.contains(&height)
             || left > LIMIT - width
             || top > LIMIT - height
         {
@@ -36,6 +35,7 @@ impl Rect {
     }
 
     /// How many entries of a buffer a prepare of it fills: it has to lie in a picture so wide and high, and then the buffer has to have room.
+    // two sides and no `Size`, since `serve` is given no more
     pub fn admitted(self, wide: u32, high: u32, room: usize) -> Result<usize, Refusal>
         ensures { Admitted wide high self room result }
     {

@@ -64,6 +64,7 @@ pub fn serve<R: Rows>(
     ensures same { R.same rows.old rows.new }
 {
     let n = rect.admitted(wide, high, buffer.len())?;
+    // a match, since at a hole there is more to do
     match fill(rows, rect, buffer) {
         Ok(()) => Ok(()),
         Err(fault) => {

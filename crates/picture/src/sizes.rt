@@ -10,13 +10,8 @@ impl Size {
     pub fn new(width: u32, height: u32, maxval: u32) -> Result<Size, Refusal>
         ensures { SizeMade width height maxval result }
     {
-        if width < 1
-            || width > LIMIT
-            || height < 1
-            || height > LIMIT
-            || maxval < 1
-            || maxval > 65_535
-        {
+        let sides = 1..=LIMIT;
+        if !sides.contains(&width) || !sides.contains(&height) || !(1..=65_535).contains(&maxval) {
             return Err(Refusal::OutsideLimits);
         }
         Ok(Size {

@@ -13,7 +13,7 @@ impl fmt::Display for Cause {
     }
 }
 
-/// The cause, the source, and where in that source it is.
+/// Writes the cause, the source, and where in that source it is.
 impl fmt::Display for Fault {
     fn fmt<W: fmt::Write>(&self, f: &mut fmt::Formatter<W>) -> fmt::Result {
         let Fault {
@@ -50,7 +50,7 @@ fn sentence(refusal: Refusal) -> &'static str {
     }
 }
 
-/// The number, a sentence, and a hole's fault.
+/// Writes the number, a sentence, and a hole's fault.
 impl fmt::Display for Refusal {
     fn fmt<W: fmt::Write>(&self, f: &mut fmt::Formatter<W>) -> fmt::Result {
         let number = self.number();

@@ -18,7 +18,7 @@ pub struct Ask {
 }
 
 impl Ask {
-    /// The demand in the five words from this one on, which are the last.
+    /// What is asked in the five words from this one on, which are the last.
     pub fn read(words: &[&str], from: usize) -> Result<Ask, CaseError> {
         let words = words.get(from..).unwrap_or(&[]);
         let length = number(words, 4)?;

@@ -4,22 +4,19 @@ use std::alloc::Global;
 /// No byte is repeated more often than this.
 const MOST: usize = 100_000;
 
+/// A hexadecimal digit.
+fn digit(b: u8) -> Result<u8, CaseError> {
+    let digit = char::from(b).to_digit(16).ok_or(CaseError::NoCase)?;
+    Ok((digit & 15) as u8)
+}
+
 /// Bytes as pairs of hexadecimal digits.
 fn plain(text: &str, bytes: &mut Vec<u8>) -> Result<(), CaseError> {
-    let mut high = None;
-    for c in text.chars() {
-        let digit = c.to_digit(16).ok_or(CaseError::NoCase)?;
-        match high {
-            None => high = Some(digit),
-            Some(before) => {
-                let pair = before.saturating_mul(16).saturating_add(digit);
-                bytes.push(u8::try_from(pair).unwrap_or(0))?;
-                high = None;
-            }
-        }
-    }
-    if high.is_some() {
-        return Err(CaseError::NoCase);
+    for pair in text.as_bytes().chunks(2) {
+        let [high, low] = *pair else {
+            return Err(CaseError::NoCase);
+        };
+        bytes.push((digit(high)? << 4) | digit(low)?)?;
     }
     Ok(())
 }
@@ -29,8 +26,8 @@ fn part(text: &str, bytes: &mut Vec<u8>) -> Result<(), CaseError> {
     let Some((byte, times)) = text.split_once('*') else {
         return plain(text, bytes);
     };
-    let byte = u8::from_str_radix(byte, 16).ok().ok_or(CaseError::NoCase)?;
-    let times = times.parse::<usize>().ok().ok_or(CaseError::NoCase)?;
+    let byte = u8::from_str_radix(byte, 16)?;
+    let times = times.parse::<usize>()?;
     for _ in 0..times.min(MOST) {
         bytes.push(byte)?;
     }

@@ -4,13 +4,19 @@ use crate::error::CaseError;
 use crate::file::run_file;
 use crate::form::form_of;
 use crate::memory::{Frame, run_memory};
-use crate::outcome::Line;
+use crate::outcome::{Line, Outcome};
 use crate::words::{number, numbers, word};
 use pixel::{Colour, Grey};
 use std::alloc::{AllocError, Global};
 
 /// What each entry of a buffer is before the call.
 const BEFORE: u64 = 7;
+
+/// What came of a case, as a line.
+fn told(heap: Global, outcome: Outcome, buffer: &[u64]) -> Result<String, CaseError> {
+    let line = Line { outcome, buffer };
+    Ok(format!(in heap; "{line}")?)
+}
 
 /// `KIND STORE BYTES NUMBER LEFT TOP WIDTH HEIGHT LENGTH`: opens a file.
 fn file_case(heap: Global, words: &[&str]) -> Result<String, CaseError> {
@@ -24,11 +30,7 @@ fn file_case(heap: Global, words: &[&str]) -> Result<String, CaseError> {
         "colour" => run_file::<Colour>(bytes.as_slice(), &form, number, ask, buffer.as_mut_slice()),
         _ => return Err(CaseError::NoCase),
     };
-    let line = Line {
-        outcome,
-        buffer: buffer.as_slice(),
-    };
-    Ok(format!(in heap; "{line}")?)
+    told(heap, outcome, buffer.as_slice())
 }
 
 /// `memory KIND WIDTH HEIGHT MAXVAL NUMBER CODES LEFT TOP WIDTH HEIGHT LENGTH`: makes a picture in memory.
@@ -42,11 +44,7 @@ fn memory_case(heap: Global, words: &[&str]) -> Result<String, CaseError> {
         "colour" => run_memory::<Colour>(codes.as_slice(), frame, ask, buffer.as_mut_slice()),
         _ => return Err(CaseError::NoCase),
     };
-    let line = Line {
-        outcome,
-        buffer: buffer.as_slice(),
-    };
-    Ok(format!(in heap; "{line}")?)
+    told(heap, outcome, buffer.as_slice())
 }
 
 /// The line that answers a case; a title, which begins with `#`, answers itself.

@@ -16,8 +16,8 @@ pub enum Form {
 /// `N`, or `N:M` where the cut is not at the joint.
 fn joint(text: &str) -> Result<Form, CaseError> {
     let (from, cut) = text.split_once(':').unwrap_or((text, text));
-    let from = from.parse::<u64>().ok().ok_or(CaseError::NoCase)?;
-    let cut = cut.parse::<usize>().ok().ok_or(CaseError::NoCase)?;
+    let from = from.parse::<u64>()?;
+    let cut = cut.parse::<usize>()?;
     Ok(Form::Joint { from, cut })
 }
 

@@ -47,17 +47,12 @@ fn run<W: fmt::Write>(f: &mut fmt::Formatter<W>, entry: u64, times: usize) -> fm
 
 /// Writes the entries of a buffer.
 fn entries<W: fmt::Write>(f: &mut fmt::Formatter<W>, buffer: &[u64]) -> fmt::Result {
-    let mut last = 0;
-    let mut times: usize = 0;
-    for entry in buffer {
-        if *entry != last {
-            run(f, last, times)?;
-            last = *entry;
-            times = 0;
+    for equal in buffer.chunk_by(|a, b| a == b) {
+        if let [entry, ..] = equal {
+            run(f, *entry, equal.len())?;
         }
-        times = times.saturating_add(1);
     }
-    run(f, last, times)
+    Ok(())
 }
 
 /// The line that tells an outcome and what the buffer then held.

@@ -8,10 +8,7 @@ pub fn word<'a>(words: &[&'a str], index: usize) -> &'a str {
 
 /// The number that the word of this index is.
 pub fn number(words: &[&str], index: usize) -> Result<u32, CaseError> {
-    word(words, index)
-        .parse::<u32>()
-        .ok()
-        .ok_or(CaseError::NoCase)
+    Ok(word(words, index).parse::<u32>()?)
 }
 
 /// Numbers parted by commas; `-` is none of them.
@@ -21,7 +18,7 @@ pub fn numbers(heap: Global, text: &str) -> Result<Vec<u64>, CaseError> {
         return Ok(found);
     }
     for part in text.split(',') {
-        found.push(part.parse::<u64>().ok().ok_or(CaseError::NoCase)?)?;
+        found.push(part.parse::<u64>()?)?;
     }
     Ok(found)
 }

@@ -46,7 +46,7 @@ impl Survey {
             .saturating_add(self.no_pixel)
     }
 
-    // What follows asks for room by a premise: the counts are public, so that no ghost field can bound them.
+    // What follows asks for room by a premise: today a caller may make any survey, and a bound in its type would ask more of it.
 
     /// Notes one more pixel.
     fn note_pixel<K: Kind>(&mut self, pixel: K)

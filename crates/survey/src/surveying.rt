@@ -33,6 +33,7 @@ fn part_at(size: Size, place: u64, count: u64, run: usize) -> Rect
 }
 
 /// Puts the codes of a part of a row into the buffer, or tells the first hole's fault.
+// As a layer asks the picture below; one public function for both would have a premise, which no call of a picture has.
 fn look<P: Picture>(picture: &mut P, part: Rect, buffer: &mut [u64]) -> Result<(), Fault>
     requires flat { part.height ≡ 1 }
     requires across { part.left + part.width ≤ (P.model picture.old).shown.width }
