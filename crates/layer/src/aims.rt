@@ -196,6 +196,7 @@ fn placed(x: i32, y: i32, fill: Ground, size: Size, part: Rect) -> Option<Aim>
             height: down.count,
         },
         base: 0,
+        // each step, 0 or 1, is a factor of a stride
         right: across.step as usize,
         left: 0,
         down: down.step as usize * across.count as usize,
