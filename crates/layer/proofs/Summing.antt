@@ -1,5 +1,15 @@
 -- A sum of taps does not depend on their order: by columns it is what it is by rows.
-use Rattle.std.proofs.Common.{◌≡◌, ℕ, zero, suc, ◌+◌, ◌*◌, ◌<◌, ◌≤◌, ℤ, nat_abs, Some, Option, sym, refl, ap, ◌∙◌, subst, add-zero, add-suc, mul_comm, add-one, arith}
+use Rattle.std.proofs.Common.{◌≡◌, List, [], ◌∷◌, ◌++◌, length, ℕ, zero, suc, ◌+◌, ◌*◌, ◌<◌, ◌≤◌, ℤ, nat_abs, Some, Option, sym, refl, ap, ◌∙◌, subst, add-zero, add-suc, mul_comm, add-one, arith}
+use Rattle.std.specs.List.{FoldsTo, fold, range_with_len}
+use Rattle.std.specs.Fn.{Called}
+use Rattle.std.specs.Iterator.{CallableAtEachTurn, Drains, FoldTurn}
+use Rattle.std.proofs.iter.Yields.{nat_range_steps}
+use Rattle.std.proofs.lemmas.Fn.{serves_by}
+use Rattle.std.proofs.lemmas.List.{length-append}
+use Rattle.std.proofs.lemmas.List.FromFn.{get_or-range_with_len, length-range_with_len}
+use Rattle.std.proofs.lemmas.Iterator.{YieldsList-from_range}
+use Rattle.std.proofs.lemmas.Iterator.Consumers.{YieldsList-turn, fold_from_yields_List}
+use denote.Param.Members.{Mut}
 use Rattle.pixel.specs.Ops.{Ops}
 use Rattle.picture.specs.Compose.{summed}
 use Rattle.layer.specs.Sums.{or_black, downward, columned}
@@ -51,6 +61,21 @@ module _ {K S : Type 0} (o : Ops K S) where
   pub by_columns : Commutes → (p : ℕ → K) (w : ℕ → ℤ) (a b : ℕ) → columned o p w a b a ≡ summed o p w (a * b)
   by_columns c p w a b = rows_of c p w a b ∙ ap (summed o p w) (mul_comm b a)
 
+  -- the columns, one added to the others after another
+  columned_fold : (p : ℕ → K) (w : ℕ → ℤ) (a b k n : ℕ) → fold (λ s q. downward o p w a q s b) (columned o p w a b k) (range_with_len k n) ≡ columned o p w a b (k + n)
+  columned_fold p w a b k zero = rw add-zero
+  columned_fold p w a b k (suc n) =
+      ap (λ s. fold (λ s q. downward o p w a q s b) s (range_with_len (k + 1) n)) (ap (columned o p w a b) (sym (add-one k))) ∙ columned_fold p w a b (k + 1) n ∙ ap (columned o p w a b) (let e : k + 1 + n ≡ k + suc n = omega arith in e)
+
+  -- what such a fold comes to
+  pub folded_columns : (p : ℕ → K) (w : ℕ → ℤ) (a b : ℕ) {F : Type 0} (m : Mut F (S × (ℕ × Unit {0})) S) (f : F) (s r : S)
+      → (xs : List ℕ) × (q : F) × Drains nat_range_steps (record { start = 0; end = a }) xs × FoldsTo {P = F × S} (λ k x v. Called m k.0 (k.1, (x, tt)) v.1 v.0) (f, s) xs (q, r) → s ≡ o.empty
+      → ((s : S) (x : ℕ) (v : S) (q : F) → Called m f (s, (x, tt)) v q → (q ≡ f) × (v ≡ downward o p w a x s b)) → r ≡ columned o p w a b a
+  folded_columns p w a b m f s r ran e says =
+      let z : 0 + a ≡ a = omega arith in
+      fold_from_yields_List m (λ s q. downward o p w a q s b) s r ran (YieldsList-from_range 0 a a refl (omega arith)) says
+      ∙ ap (λ s. fold (λ s q. downward o p w a q s b) s (range_with_len 0 a)) e ∙ columned_fold p w a b 0 a ∙ ap (columned o p w a b) z
+
   pub summed_same : (p q : ℕ → K) (w x : ℕ → ℤ) (n : ℕ) → ((k : ℕ) → k < n → p k ≡ q k) → ((k : ℕ) → k < n → w k ≡ x k) → summed o p w n ≡ summed o q x n
   summed_same p q w x zero h e = refl
   summed_same p q w x (suc n) h e =
@@ -86,3 +111,20 @@ module _ {K S : Type 0} (o : Ops K S) where
 
     pub held_columns_as : Grown → (p : ℕ → K) (w : ℕ → ℤ) → ((k : ℕ) → nat_abs (w k) ≤ 256) → held o.empty 0 → (a b q : ℕ) (s : S) → s ≡ columned o p w a b q → held s (q * b)
     held_columns_as g p w l h a b q s e = subst (λ z. held z (q * b)) (sym e) (held_columns g p w l h a b q)
+
+    -- what the closure of a fold over the columns may be asked
+    pub serves_columns : Grown → (p : ℕ → K) (w : ℕ → ℤ) → ((k : ℕ) → nat_abs (w k) ≤ 256) → held o.empty 0 → (a b : ℕ) {F : Type 0} (m : Mut F (S × (ℕ × Unit {0})) S) (f : F) (s : S) (Q : F × S → ℕ → Type 0) → s ≡ o.empty
+        → ((s : S) (x : ℕ) (v : S) (q : F) → Called m f (s, (x, tt)) v q → (q ≡ f) × (v ≡ downward o p w a x s b)) → ((s : S) (x : ℕ) → x < a → held s (x * b) → Q (f, s) x)
+        → CallableAtEachTurn nat_range_steps (FoldTurn m) Q (record { start = 0; end = a }) (f, s)
+    serves_columns grown p w l none a b {F} m f s Q e says asks =
+        serves_by (FoldTurn m) (λ xs q. (q.0 ≡ f) × held q.1 (length xs * b))
+        (λ xs q x v j r.
+        let d = says q.1 x v.1 v.0 (subst (λ (k : F). Called m k (q.1, (x, tt)) v.1 v.0) j.0 r) in
+        let n : length xs * b + b ≡ length (xs ++ (x ∷ [])) * b = sym (next_row (length xs) b) ∙ ap (λ z. z * b) (sym (length-append xs (x ∷ []))) in
+        (d.0, subst (held v.1) n (held_down_as grown p w l a x q.1 v.1 (length xs * b) b d.1 j.1)))
+        nat_range_steps Q (record { start = 0; end = a }) (f, s) (refl, held_columns_as grown p w l none a b 0 s e)
+        (λ xs t q x u y k j.
+        let m = YieldsList-turn (YieldsList-from_range 0 a a refl (omega arith)) xs t y (Some x) u x refl k in
+        let lt : length xs < a = omega (arith, m.0, length-range_with_len 0 a) in
+        let at : x ≡ length xs = omega (arith, m.1 ∙ get_or-range_with_len 0 a (length xs) x lt) in
+        subst (λ (z : F). Q (z, q.1) x) (sym j.0) (asks q.1 x (omega (arith, at, lt)) (subst (λ z. held q.1 (z * b)) (sym at) j.1)))

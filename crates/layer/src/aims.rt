@@ -1,7 +1,7 @@
 ghost use Rattle.std.specs.Prelude.{◌≡◌, ◌+◌, ◌-◌, ◌*◌, ◌<◌, ◌≤◌, true, pos, ◌-ℤ◌, unsigned_abs};
 ghost use Rattle.picture.specs.Limits.{largest};
 ghost use Rattle.picture.specs.Steps.{embedded, factor, formula, height_of, width_of};
-ghost use Rattle.layer.specs.Aims.{Aims, Boxes, Copies, Flips, Turns, Windows};
+ghost use Rattle.layer.specs.Aims.{Aims, Boxes, Copies, Flips, Inside, Turns, Windows};
 ghost use Rattle.layer.specs.Spreads.{beside};
 
 use crate::aim::{Aim, Carry, Lens};
@@ -33,8 +33,7 @@ fn straight(left: u32, top: u32, part: Rect) -> Carry
 
 /// The part lies below mirrored in a picture of this size.
 fn flipped(axis: Axis, size: Size, part: Rect) -> Carry
-    requires across { part.left + part.width ≤ size.width }
-    requires down { part.top + part.height ≤ size.height }
+    requires { Inside part size.width size.height }
     ensures { Flips axis result size.width size.height part }
 {
     let Rect {
@@ -76,8 +75,7 @@ fn flipped(axis: Axis, size: Size, part: Rect) -> Carry
 
 /// The part lies below turned in a picture of this size.
 fn turned(turn: Turn, size: Size, part: Rect) -> Carry
-    requires across { part.left + part.width ≤ size.height }
-    requires down { part.top + part.height ≤ size.width }
+    requires { Inside part size.height size.width }
     ensures { Turns turn result size.width size.height part }
 {
     let Rect {
@@ -143,8 +141,7 @@ fn boxes(across: u32, down: u32, part: Rect) -> Lens
 
 /// The part lies under masks.
 fn masked(size: Size, part: Rect) -> Lens
-    requires across { part.left + part.width ≤ size.width }
-    requires down { part.top + part.height ≤ size.height }
+    requires { Inside part size.width size.height }
     ensures { Windows result size.width size.height part }
 {
     let x = reach(part.left, part.width, size.width);
@@ -196,6 +193,7 @@ fn placed(x: i32, y: i32, fill: Ground, size: Size, part: Rect) -> Option<Aim>
             height: down.count,
         },
         base: 0,
+        // each step, 0 or 1, is a factor of a stride
         right: across.step as usize,
         left: 0,
         down: down.step as usize * across.count as usize,
@@ -206,8 +204,7 @@ fn placed(x: i32, y: i32, fill: Ground, size: Size, part: Rect) -> Option<Aim>
 impl Over {
     /// What of the picture below makes a part: the formulas of the steps. Nothing, if the part lies across an edge.
     pub fn aim(self, part: Rect) -> Option<Aim>
-        requires across { part.left + part.width ≤ width_of self.step self.size.width self.size.height }
-        requires down { part.top + part.height ≤ height_of self.step self.size.width self.size.height }
+        requires { Inside part (width_of self.step self.size.width self.size.height) (height_of self.step self.size.width self.size.height) }
         ensures { Aims result (formula self.step self.size.width self.size.height) self.size.width self.size.height part }
     {
         let size = self.size;

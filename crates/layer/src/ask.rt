@@ -6,6 +6,7 @@ use picture::{Fault, Picture, Rect, Refusal};
 use pixel::Kind;
 
 /// Prepares a region below that lies inside and has room.
+// The body of survey's `look` too: a function for both would be a public call of a picture with a premise, and none has one.
 pub(crate) fn ask<P: Picture>(below: &mut P, at: Rect, codes: &mut [u64]) -> Result<(), Fault>
     requires inside { Inside at (P.model below.old).shown.width (P.model below.old).shown.height }
     requires room { area at ≤ length codes.old }
@@ -14,7 +15,7 @@ pub(crate) fn ask<P: Picture>(below: &mut P, at: Rect, codes: &mut [u64]) -> Res
     ensures keeps { P.model below.new ≡ P.model below.old }
     ensures counts { P.count below.new ≡ up (P.count below.old) }
 {
-    // a match, since no other refusal can come here
+    // a match: of several refusals one is told, and the others can't come here
     match below.prepare(at, codes) {
         Ok(()) => Ok(()),
         Err(Refusal::Hole(fault)) => Err(fault),

@@ -8,6 +8,7 @@ use crate::over::Over;
 use picture::{Rect, Step};
 
 /// The first edge of what an embedding holds that lies among `count` places from `from` on.
+// The places go by two numbers: a struct of them would be made of a part's numbers for each call and be taken apart in it.
 fn edge(from: u32, count: u32, offset: i32, side: u32) -> Option<u32>
     requires near { unsigned_abs offset ≤ largest }
     requires within { from + count ≤ largest }

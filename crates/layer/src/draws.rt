@@ -11,8 +11,8 @@ use crate::piece::Piece;
 use crate::weights::Weights;
 use pixel::Kind;
 
-// A trait: what a closure computes would be said less plainly by its `post`.
 /// How the codes of a region make the place (i, j) of a part.
+// A trait: what a closure computes would be said less plainly by its `post`.
 pub(crate) trait Draw {
     ghost drawn: { Self → List ℕ → ℕ → ℕ → ℕ };
 

@@ -48,10 +48,10 @@ impl<K: Kind, W: Weights> Blended<K, W> {
         requires { Readable K.ops codes.now self.now.lens i j }
         ensures { result ≡ K.ops.finish (summed K.ops (lens_pixel K.ops codes.now self.now.lens i j) (W.weighs self.now.filter.weights) (self.now.lens.columns * self.now.lens.rows)) self.now.filter.scale self.now.filter.offset self.now.maxval }
     {
-        let mut sum = K::empty();
-        for q in 0..self.lens.columns {
-            sum = self.add_column(sum, codes, i, j, q);
-        }
+        let sum = (0..self.lens.columns).fold(
+            K::empty(),
+            |sum, q| self.add_column(sum, codes, i, j, q),
+        );
         K::finish(sum, self.filter.scale, self.filter.offset, self.maxval)
     }
 }

@@ -93,18 +93,10 @@ impl<P: Picture> Layer<P> {
         let Some(aim) = self.over.aim(piece.part) else {
             return Err(Undrawn::Uncut);
         };
-        match aim {
-            Aim::Black => {
-                let code = P::Pixel::black().code();
-                lay(&Plain { code }, &self.scratch, piece, buffer);
-                Ok(())
-            }
-            Aim::White => {
-                let code = P::Pixel::white(self.over.size.maxval).code();
-                lay(&Plain { code }, &self.scratch, piece, buffer);
-                Ok(())
-            }
-            Aim::Copy(carry) => draw_part(
+        let pixel = match aim {
+            Aim::Black => P::Pixel::black(),
+            Aim::White => P::Pixel::white(self.over.size.maxval),
+            Aim::Copy(carry) => return draw_part(
                 &mut self.below,
                 carry.at,
                 &carry,
@@ -118,9 +110,12 @@ impl<P: Picture> Layer<P> {
                     scale: lens.columns * lens.rows,
                     offset: 0,
                 };
-                self.blend_part(lens, filter, piece, buffer)
+                return self.blend_part(lens, filter, piece, buffer);
             }
-            Aim::Masked(lens, mask) => self.blend_part(lens, of_mask(mask), piece, buffer),
-        }
+            Aim::Masked(lens, mask) => return self.blend_part(lens, of_mask(mask), piece, buffer),
+        };
+        let plain = Plain { code: pixel.code() };
+        lay(&plain, &self.scratch, piece, buffer);
+        Ok(())
     }
 }

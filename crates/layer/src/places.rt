@@ -22,7 +22,7 @@ impl<P: Picture> Layer<P> {
             height: 1,
         };
         let mut code = [0];
-        // a match, since a single place is always small enough to be drawn at once
+        // a match: of two refusals one is told, and the other can't come, since a single place is always small enough to be drawn at once
         match self.block(Piece { whole, part: whole }, &mut code) {
             Ok(()) => Ok(code[0]),
             Err(Undrawn::Hole(fault)) => Err(fault),

@@ -1,6 +1,7 @@
 ghost use Rattle.std.specs.Prelude.{◌≡◌, ℕ, ℤ, ◌≤◌, pos, slice_index_or, unsigned_abs};
 
 /// The weights of a window, in reading order.
+// A trait: what a closure computes would be said less plainly by its `post`.
 pub(crate) trait Weights: Copy {
     ghost weighs: { Self → ℕ → ℤ };
 

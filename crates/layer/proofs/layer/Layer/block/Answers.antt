@@ -1,4 +1,4 @@
-use Rattle.std.proofs.Common.{◌≡◌, ◌+◌, ◌-◌, ◌*◌, get_or, pos, Some, sym, ap, ◌∙◌, arith}
+use Rattle.std.proofs.Common.{◌≡◌, ℕ, ◌<◌, ◌+◌, ◌-◌, ◌*◌, get_or, pos, Some, sym, ap, ◌∙◌, arith}
 use Rattle.picture.specs.Compose.{taken}
 use Rattle.picture.specs.Prepare.{area, coded}
 use Rattle.picture.specs.Steps.{formula, kernel}
@@ -9,6 +9,7 @@ use Rattle.layer.proofs.Mixing.{carried_place}
 use Rattle.layer.proofs.Parting.{can_carry, carried_needs, coded_carried, mixed_at, mixed_needs, shows_drawn, aims_as, masked, told_as}
 use Rattle.layer.specs.Placing.{stood}
 use Rattle.layer.proofs.layer.Layer.block.Goals as goal
+use Rattle.layer.proofs.layer.Layer.block.Goals.{in-Black, in-White}
 
 pub draw_part-requires-clause-can : goal.draw_part-requires-clause-can
 draw_part-requires-clause-can g c codes h s i j li lj =
@@ -18,25 +19,23 @@ draw_part-requires-clause-can g c codes h s i j li lj =
     let k = can_carry g.P.Pixel.Kind.ops (g.P.Picture.model l.below).shown c.in-Copy.carry codes i j _ (a.1 i j li lj) h in
     (a.3, omega (arith, p.across), omega (arith, p.down), k.0, k.1, k.2)
 
-pub returns-in-Black-clause-laid : goal.returns-in-Black-clause-laid
-returns-in-Black-clause-laid g c z =
+pub returns-clause-laid : goal.returns-clause-laid
+returns-clause-laid g c z =
     let o = g.P.Pixel.Kind.ops in
     let l = c.args.self.now in
     let b = (g.P.Picture.model l.below).shown in
     let p = c.args.piece.part in
-    let a = aims_as _ _ (formula l.over.step l.over.size.width l.over.size.height) _ _ p c.in-Black.is c.in-Some.ensures in
-    shows_drawn o b l.over.step l.over.size c.args.piece.whole p _ _ _ l.stands
-    (λ i j k li lj q. ap (λ f. coded o (taken o b.maxval b.at f)) (a i j li lj) ∙ ap Some (sym (q ∙ c.code-code.ensures ∙ ap o.code c.black.ensures))) c.lay.ensures
-
-pub returns-in-White-clause-laid : goal.returns-in-White-clause-laid
-returns-in-White-clause-laid g c z =
-    let o = g.P.Pixel.Kind.ops in
-    let l = c.args.self.now in
-    let b = (g.P.Picture.model l.below).shown in
-    let p = c.args.piece.part in
-    let a = aims_as _ _ (formula l.over.step l.over.size.width l.over.size.height) _ _ p c.in-White.is c.in-Some.ensures in
-    shows_drawn o b l.over.step l.over.size c.args.piece.whole p _ _ _ l.stands
-    (λ i j k li lj q. ap (λ f. coded o (taken o b.maxval b.at f)) (a i j li lj) ∙ ap Some (sym (q ∙ c.code-code-in-White.ensures ∙ ap o.code (c.white.ensures ∙ ap o.white l.stands.maxval)))) c.lay-in-White.ensures
+    let φ = formula l.over.step l.over.size.width l.over.size.height in
+    let plain : (i j : ℕ) → i < p.width → j < p.height → coded o (taken o b.maxval b.at (φ (p.left + i) (p.top + j))) ≡ Some (o.code c.match-aim-2.pixel) =
+    elim c.match-aim-2.branch [
+      | in-Black w ↦ λ i j li lj.
+          ap (λ f. coded o (taken o b.maxval b.at f)) (aims_as _ _ φ _ _ p w.in-Black.is c.in-Some.ensures i j li lj)
+          ∙ ap (λ k. Some (o.code k)) (sym (w.pixel-is ∙ w.black-pixel.ensures))
+      | in-White w ↦ λ i j li lj.
+          ap (λ f. coded o (taken o b.maxval b.at f)) (aims_as _ _ φ _ _ p w.in-White.is c.in-Some.ensures i j li lj)
+          ∙ ap (λ k. Some (o.code k)) (sym (w.pixel-is ∙ w.white-pixel.ensures ∙ ap o.white l.stands.maxval))
+    ] in
+    shows_drawn o b l.over.step l.over.size c.args.piece.whole p _ _ _ l.stands (λ i j k li lj q. plain i j li lj ∙ ap Some (sym (q ∙ c.code.ensures))) c.lay.ensures
 
 pub returns-in-Copy-clause-laid : goal.returns-in-Copy-clause-laid
 returns-in-Copy-clause-laid g c z =
