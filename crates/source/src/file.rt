@@ -21,8 +21,8 @@ const RUN: usize = 1024;
 pub(crate) const BLOCK: usize = 6 * RUN;
 
 /// The picture in a file, whose bytes a store has.
-#[derive(Drop)]
 // Its block has a fixed length, since the engine allocates nothing.
+#[derive(Drop)]
 pub struct FileSource<S, K> {
     pub(crate) store: S,
     pub(crate) raster: Raster,
