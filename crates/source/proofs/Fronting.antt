@@ -1,11 +1,12 @@
 -- How a read of a store's first places finds the bytes that it begins with.
-use Rattle.std.proofs.Common.{◌≡◌, ℕ, zero, suc, ◌+◌, ◌<◌, ◌≤◌, List, [], ◌∷◌, ◌++◌, length, get_or, take, Ok, Err, sym, refl, ap, ◌∙◌, ⊎_elim, subst, add-zero, zero-add, arith}
+use Rattle.std.proofs.Common.{◌≡◌, ℕ, zero, suc, ◌+◌, ◌<◌, ◌≤◌, List, [], ◌∷◌, length, get_or, take, Option, Some, None, Ok, Err, sym, refl, ap, ◌∙◌, ⊎_elim, subst, add-zero, zero-add, arith}
 use Rattle.std.proofs.lemmas.Bool.{cases_lt}
-use Rattle.std.proofs.lemmas.List.{take_all, take_at}
+use Rattle.std.proofs.lemmas.List.{get_or-take, length-take}
 use Rattle.store.specs.declared.lack.Lack.{Lack}
 use Rattle.store.specs.Cells.{Cell, byte, missing, unread}
-use Rattle.store.specs.Reads.{answer, before, filled, place_of, value}
+use Rattle.store.specs.Reads.{answer, before, value}
 use Rattle.store.proofs.Answering.{answer_each, fills, stop, Stop}
+use Rattle.source.specs.Loading.{Had, Misses}
 use Rattle.source.specs.Front.{FirstLack, HasByte, available, more}
 
 -- xs are the bytes from p on, up to n of them, that end at the first place that has none
@@ -63,32 +64,16 @@ run_stop f p n x xs r s =
     (cases_lt s.count (length xs)))
     (cases_lt (length xs) s.count)
 
--- a read that fills leaves them
-run_filled : (f : ℕ → Cell) (p n : ℕ) (old xs : List ℕ) → Run f p n xs → answer f p (length old) ≡ Ok tt → length xs ≡ length old → filled f p old ≡ xs
-run_filled f p n old xs r e l = sym (fills f p old xs e l (λ k h. sym (ap value (r.bytes k (omega arith)))))
+had_long : (f : ℕ → Cell) (m n : ℕ) (xs : List ℕ) (x : Option Lack) → Run f 0 m xs → answer f 0 n ≡ Ok tt → Misses f 0 m n x → length xs ≡ n
+had_long f m n xs None r t e = run_all f 0 m xs r (ap (answer f 0) (sym e) ∙ t) ∙ sym e
+had_long f m n xs (Some x) r t e = let s = stop f 0 m x e.0 in omega (arith, run_stop f 0 m x xs r s, s.place, e.1)
 
-pub stop_within : (f : ℕ → Cell) (n r : ℕ) (x : Lack) → Err x ≡ answer f 0 n → r ≡ place_of x → r ≤ n
-stop_within f n r x e h = let s = stop f 0 n x (sym e) in omega (arith, s.place, s.within)
-
--- the first n of new are the bytes that f begins with, up to m
-pub record Front (f : ℕ → Cell) (m n : ℕ) (new : List ℕ) : Type 0 where
-  pub count : n ≡ length (available f 0 m)
-  pub bytes : take n new ≡ available f 0 m
-  pub within : n ≤ m
-
-pub front_ok : (f : ℕ → Cell) (old new : List ℕ) → Ok tt ≡ answer f 0 (length old) → new ≡ filled f 0 old → Front f (length old) (length new) new
-front_ok f old new e h =
-    let r = run_of f 0 (length old) in
-    let l : length (available f 0 (length old)) ≡ length old = run_all f 0 (length old) _ r (sym e) in
-    let a : new ≡ available f 0 (length old) = h ∙ run_filled f 0 (length old) old _ r (sym e) l in
-    record { count = ap length a; bytes = take_all (length new) new (omega arith) ∙ a; within = omega (arith, ap length a) }
-
-pub front_err : (f : ℕ → Cell) (m n : ℕ) (x : Lack) (part old rest : List ℕ) → Err x ≡ answer f 0 m → n ≡ place_of x → length old ≡ n → part ≡ filled f 0 old → Front f m n (part ++ rest)
-front_err f m n x part old rest e h l p =
-    let s = stop f 0 m x (sym e) in
+-- the bytes that a read had, if it began at the first place
+pub front_had : (f : ℕ → Cell) (m n : ℕ) (new : List ℕ) (x : Option Lack) → length new ≡ m → Had f 0 m new n x → take n new ≡ available f 0 m
+front_had f m n new x l d =
     let r = run_of f 0 m in
-    let c : length (available f 0 m) ≡ s.count = run_stop f 0 m x _ r s in
-    let k : s.count ≡ length old = omega (arith, s.place) in
-    let o : answer f 0 (length old) ≡ Ok tt = subst (λ j. answer f 0 j ≡ Ok tt) k s.good in
-    let a : part ≡ available f 0 m = p ∙ run_filled f 0 m old _ r o (c ∙ k) in
-    record { count = omega arith; bytes = take_at part rest n (ap length a ∙ c ∙ k ∙ l) ∙ a; within = omega (arith, s.within) }
+    let c : length (available f 0 m) ≡ n = had_long f m n (available f 0 m) x r d.there d.misses in
+    let t : length (take n new) ≡ n = simp length-take (omega (arith, d.within)) in
+    let a : answer f 0 (length (take n new)) ≡ Ok tt = ap (answer f 0) t ∙ d.there in
+    fills f 0 (take n new) (take n new) a refl (λ k h. get_or-take n new k 0 (omega arith) ∙ d.bytes k (omega arith))
+    ∙ sym (fills f 0 (take n new) (available f 0 m) a (omega arith) (λ k h. sym (ap value (r.bytes k (omega arith)))))

@@ -8,6 +8,7 @@ ghost use Rattle.std.proofs.Common.{rules};
 ghost use Rattle.source.specs.Rasters.{Lawful, raster_bounded};
 
 use crate::raster::Raster;
+use crate::reads::read_some;
 use crate::samples::decode;
 use picture::{Cause, Fault, Picture, Rect, Refusal, Rows, Size, serve};
 use pixel::{Kind, pixel_bytes};
@@ -21,8 +22,8 @@ const RUN: usize = 1024;
 pub(crate) const BLOCK: usize = 6 * RUN;
 
 /// The picture in a file, whose bytes a store has.
-#[derive(Drop)]
 // Its block has a fixed length, since the engine allocates nothing.
+#[derive(Drop)]
 pub struct FileSource<S, K> {
     pub(crate) store: S,
     pub(crate) raster: Raster,
@@ -54,20 +55,10 @@ fn read_pixels<S: Store>(store: &S, place: u64, step: usize, count: usize, block
     requires room { count * step ≤ length block.old }
     ensures { Loaded (capped (S.at store.now)) place step count block.new result.pixels result.lack }
 {
-    match store.read(place, &mut block[..count * step]) {
-        Ok(()) => Load {
-            pixels: count,
-            lack: None,
-        },
-        Err(lack) => {
-            let pixels = (lack.place() - place) as usize / step;
-            // Those before it are bytes, so this is answered.
-            let _ = store.read(place, &mut block[..pixels * step]);
-            Load {
-                pixels,
-                lack: Some(cause_of(lack)),
-            }
-        }
+    let (bytes, lack) = read_some(store, place, &mut block[..count * step]);
+    Load {
+        pixels: bytes / step,
+        lack: lack.map(cause_of),
     }
 }
 

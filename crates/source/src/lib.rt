@@ -10,6 +10,7 @@ mod memory;
 mod open;
 mod raster;
 mod reader;
+mod reads;
 mod samples;
 
 pub use file::FileSource;

@@ -84,7 +84,7 @@ impl Reader {
         ensures answer { result ≡ answered (judged place field value self.old) }
         ensures after { self.new ≡ moved (judged place field value self.old) self.old }
     {
-        if value < 1 || value > field.limit() {
+        if !(1..=field.limit()).contains(&value) {
             return Err(HeaderError::Number { place });
         }
         match field {

@@ -2,6 +2,8 @@ ghost use Rattle.std.specs.Prelude.{◌≡◌, ℕ, ◌+◌, ◌≤◌, [], ◌�
 ghost use Rattle.writer.specs.File.{field, header};
 ghost use Rattle.writer.specs.Calls.{over};
 
+use picture::Size;
+
 // Numbers are printed here: a formatter prints into a buffer of its own, and can't say beforehand how long a header is.
 
 /// How many digits a number has.
@@ -41,6 +43,7 @@ fn put_field(out: &mut [u8], n: u32, behind: u8) -> usize
 }
 
 /// Writes the first line, and answers how many bytes it has.
+// the mark is a byte, as in `RowWriter`: nothing else of a header depends on the kind
 fn put_mark(out: &mut [u8], mark: u8) -> usize
     requires { 3 ≤ length out.old }
     ensures end { result ≡ 3 }
@@ -53,21 +56,21 @@ fn put_mark(out: &mut [u8], mark: u8) -> usize
 }
 
 /// How many bytes a header has, whatever the mark.
-pub(crate) fn header_bytes(width: u32, height: u32, maxval: u16) -> usize
-    ensures value { (mark : ℕ) → result ≡ length (header mark width height maxval) }
+pub(crate) fn header_bytes(size: Size) -> usize
+    ensures value { (mark : ℕ) → result ≡ length (header mark size.width size.height size.maxval) }
     ensures small { result ≤ 36 }
 {
-    digits(width) + digits(height) + digits(maxval as u32) + 6
+    digits(size.width) + digits(size.height) + digits(size.maxval as u32) + 6
 }
 
 /// Writes a header at the start, and answers how many bytes it has.
-pub(crate) fn put_header(out: &mut [u8], mark: u8, width: u32, height: u32, maxval: u16) -> usize
-    requires { length (header mark width height maxval) ≤ length out.old }
-    ensures end { result ≡ length (header mark width height maxval) }
-    ensures out { out.new ≡ over (header mark width height maxval) out.old }
+pub(crate) fn put_header(out: &mut [u8], mark: u8, size: Size) -> usize
+    requires { length (header mark size.width size.height size.maxval) ≤ length out.old }
+    ensures end { result ≡ length (header mark size.width size.height size.maxval) }
+    ensures out { out.new ≡ over (header mark size.width size.height size.maxval) out.old }
 {
     let mut end = put_mark(out, mark);
-    end += put_field(&mut out[end..], width, b' ');
-    end += put_field(&mut out[end..], height, b'\n');
-    end + put_field(&mut out[end..], maxval as u32, b'\n')
+    end += put_field(&mut out[end..], size.width, b' ');
+    end += put_field(&mut out[end..], size.height, b'\n');
+    end + put_field(&mut out[end..], size.maxval as u32, b'\n')
 }

@@ -35,7 +35,7 @@ fn put_pixel<K: Kind>(out: &mut [u8], pixel: K, maxval: u16) -> usize
     ensures out { out.new ≡ over (pixel_bytes K.ops maxval pixel) out.old }
 {
     let mut end = 0;
-    // by index, since a kind knows its samples by their number
+    // by number: a kind gives each sample of a pixel so, and has no slice of them
     for k in 0..K::depth() {
         end += put_sample(&mut out[end..], pixel.sample(k), maxval);
     }

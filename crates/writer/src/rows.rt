@@ -14,11 +14,11 @@ pub fn begin<P: Picture>(picture: &P, out: &mut [u8]) -> Result<(usize, RowWrite
     ensures whole { IfOk result (λ x. Joined P.Pixel.ops P.model P.count P.bare picture.now (take x.0 out.new) x.1) }
 {
     let size = picture.size();
-    if out.len() < header_bytes(size.width, size.height, size.maxval) {
+    if out.len() < header_bytes(size) {
         return Err(Refusal::BufferTooShort);
     }
     let mark = P::Pixel::mark();
-    let bytes = put_header(out, mark, size.width, size.height, size.maxval);
+    let bytes = put_header(out, mark, size);
     Ok((
         bytes,
         RowWriter {

@@ -17,6 +17,7 @@ pub(crate) struct Square<K: Kind> {
     ghost under: { Under maxval (K.ops.samples pad) },
 }
 
+// That codes are known stands in each contract, as in `layout.rt`.
 impl<K: Kind> Square<K> {
     /// Writes a row that shows these codes.
     fn put_row(&self, out: &mut [u8], codes: &[u64]) -> usize

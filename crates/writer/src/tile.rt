@@ -21,7 +21,7 @@ fn padding<K: Kind>(maxval: u16) -> K
     match Ground::default() {
         Ground::Black => K::black(),
         Ground::White => K::white(maxval),
-        Ground::Copy => unreachable(),
+        Ground::Copy => unreachable!(),
     }
 }
 
@@ -45,6 +45,7 @@ fn visible(size: Size, column: u32, row: u32, side: u32) -> Option<Rect>
 }
 
 /// Writes the file of a square of the picture at the start of the buffer: tile (column, row) starts at (column × side, row × side), and is padded right and below as an embedding that names no ground. Answers how many bytes it has. The work buffer holds the codes of the part inside the picture.
+// the caller lends `work` and `out`, as for a strip
 pub fn write_tile<P: Picture>(
     picture: &mut P,
     column: u32,
@@ -57,13 +58,18 @@ pub fn write_tile<P: Picture>(
 {
     let size = picture.size();
     let part = visible(size, column, row, side).ok_or(Refusal::NoTile)?;
-    let bytes = header_bytes(side, side, size.maxval)
+    let tile = Size {
+        width: side,
+        height: side,
+        maxval: size.maxval,
+    };
+    let bytes = header_bytes(tile)
         + side as usize * side as usize * pixel_bytes::<P::Pixel>(size.maxval);
     if work.len() < part.area() || out.len() < bytes {
         return Err(Refusal::BufferTooShort);
     }
     picture.prepare(part, work)?;
-    let head = put_header(out, P::Pixel::mark(), side, side, size.maxval);
+    let head = put_header(out, P::Pixel::mark(), tile);
     let square = Square::<P::Pixel> {
         side: side as usize,
         pad: padding(size.maxval),

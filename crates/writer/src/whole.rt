@@ -39,6 +39,7 @@ fn put_strips<P: Picture>(
 }
 
 /// Writes the whole file of a picture at the start of the buffer, by strips of this height; answers how many bytes it has.
+// the caller lends `work` and `out`, as for a strip
 pub fn write_file<P: Picture>(
     picture: &mut P,
     height: u32,
@@ -52,7 +53,7 @@ pub fn write_file<P: Picture>(
         return Err(Refusal::NoRows);
     }
     let wide = size.width as usize;
-    let bytes = header_bytes(size.width, size.height, size.maxval)
+    let bytes = header_bytes(size)
         + wide * size.height as usize * pixel_bytes::<P::Pixel>(size.maxval);
     if work.len() < wide * height.min(size.height) as usize || out.len() < bytes {
         return Err(Refusal::BufferTooShort);

@@ -22,18 +22,18 @@ next : (s s1 : List ℕ) (q n : ℕ) → length s1 ≡ length s → q + n ≤ le
 next s s1 q n l h = (omega arith, omega (arith, length-behind s1 q))
 
 pub put_mark-end-requires : goal.put_mark-end-requires
-put_mark-end-requires c = omega (arith, length-header c.args.mark c.args.width c.args.height c.args.maxval)
+put_mark-end-requires c = omega (arith, length-header c.args.mark c.args.size.width c.args.size.height c.args.size.maxval)
 
 pub put_field-end-requires : goal.put_field-end-requires
 put_field-end-requires c =
-    let all = length-header c.args.mark c.args.width c.args.height c.args.maxval in
-    (next c.args.out.now c.put_mark-end.new.out c.put_mark-end.result (length (decimal c.args.width) + 1) c.put_mark-end.auto.out (omega arith)).1
+    let all = length-header c.args.mark c.args.size.width c.args.size.height c.args.size.maxval in
+    (next c.args.out.now c.put_mark-end.new.out c.put_mark-end.result (length (decimal c.args.size.width) + 1) c.put_mark-end.auto.out (omega arith)).1
 
 -- behind the width
-second : (c : After-put_field-end) → Next (with_part c.put_mark-end.new.out c.put_mark-end.result c.put_field-end.new.out) (c.put_mark-end.result + c.put_field-end.result) (length (decimal c.args.height) + 1)
+second : (c : After-put_field-end) → Next (with_part c.put_mark-end.new.out c.put_mark-end.result c.put_field-end.new.out) (c.put_mark-end.result + c.put_field-end.result) (length (decimal c.args.size.height) + 1)
 second c =
-    let all = length-header c.args.mark c.args.width c.args.height c.args.maxval in
-    next c.args.out.now _ (c.put_mark-end.result + c.put_field-end.result) (length (decimal c.args.height) + 1)
+    let all = length-header c.args.mark c.args.size.width c.args.size.height c.args.size.maxval in
+    next c.args.out.now _ (c.put_mark-end.result + c.put_field-end.result) (length (decimal c.args.size.height) + 1)
     (behind c.args.out.now c.put_mark-end.new.out c.put_field-end.new.out c.put_mark-end.result c.put_mark-end.auto.out (omega arith) c.put_field-end.auto.out) (omega arith)
 
 pub slice_bounds-put_field-count-2 : goal.slice_bounds-put_field-count-2
@@ -47,10 +47,10 @@ put_field-end-requires-2 c = (second (goal.at.put_field-end-requires-2 c).After-
 
 -- behind the height
 third : (c : After-put_field-end-2)
-    → Next (with_part (with_part c.put_mark-end.new.out c.put_mark-end.result c.put_field-end.new.out) (c.put_mark-end.result + c.put_field-end.result) c.put_field-end-2.new.out) (c.put_mark-end.result + c.put_field-end.result + c.put_field-end-2.result) (length (decimal c.args.maxval) + 1)
+    → Next (with_part (with_part c.put_mark-end.new.out c.put_mark-end.result c.put_field-end.new.out) (c.put_mark-end.result + c.put_field-end.result) c.put_field-end-2.new.out) (c.put_mark-end.result + c.put_field-end.result + c.put_field-end-2.result) (length (decimal c.args.size.maxval) + 1)
 third c =
-    let all = length-header c.args.mark c.args.width c.args.height c.args.maxval in
-    next c.args.out.now _ (c.put_mark-end.result + c.put_field-end.result + c.put_field-end-2.result) (length (decimal c.args.maxval) + 1)
+    let all = length-header c.args.mark c.args.size.width c.args.size.height c.args.size.maxval in
+    next c.args.out.now _ (c.put_mark-end.result + c.put_field-end.result + c.put_field-end-2.result) (length (decimal c.args.size.maxval) + 1)
     (behind c.args.out.now _ c.put_field-end-2.new.out (c.put_mark-end.result + c.put_field-end.result)
     (behind c.args.out.now c.put_mark-end.new.out c.put_field-end.new.out c.put_mark-end.result c.put_mark-end.auto.out (omega arith) c.put_field-end.auto.out) (omega arith) c.put_field-end-2.auto.out) (omega arith)
 
@@ -67,9 +67,9 @@ pub returns : goal.returns
 returns c =
     let s = c.args.out.now in
     let k = c.args.mark in
-    let w = c.args.width in
-    let h = c.args.height in
-    let m = c.args.maxval in
+    let w = c.args.size.width in
+    let h = c.args.size.height in
+    let m = c.args.size.maxval in
     let mk : List ℕ = 80 ∷ (k ∷ (10 ∷ [])) in
     let all = length-header k w h m in
     let lw = length-field w 32 in
