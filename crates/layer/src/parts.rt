@@ -21,6 +21,7 @@ use pixel::Kind;
 use std::marker::PhantomData;
 
 /// Draws a part from a region below that is prepared at once.
+#[inline(always)]
 fn draw_part<P: Picture, D: Draw>(
     below: &mut P,
     at: Rect,
@@ -48,6 +49,7 @@ fn draw_part<P: Picture, D: Draw>(
 
 impl<P: Picture> Layer<P> {
     /// A part whose places are windows through this filter, from one prepare below.
+    #[inline(always)]
     fn blend_part<W: Weights>(
         &mut self,
         lens: Lens,
@@ -80,6 +82,7 @@ impl<P: Picture> Layer<P> {
     }
 
     /// A part at once; where that part is a single place, nothing but a hole refuses it.
+    #[inline(always)]
     pub(crate) fn block(&mut self, piece: Piece, buffer: &mut [u64]) -> Result<(), Undrawn>
         requires inside { Inside piece.whole (model_of P.Pixel.ops P.model self.old).shown.width (model_of P.Pixel.ops P.model self.old).shown.height }
         requires room { length buffer.old ≡ area piece.whole }
