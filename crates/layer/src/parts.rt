@@ -1,6 +1,6 @@
 ghost use Rattle.std.specs.Prelude.{◌≡◌, ℕ, ◌-◌, ◌<◌, ◌≤◌, List, length, Ok, Err, Some};
 ghost use Rattle.picture.specs.Compose.{taken};
-ghost use Rattle.picture.specs.Prepare.{Shown, area, coded, first_in, nth};
+ghost use Rattle.picture.specs.Prepare.{Shown, area, coded, first_in, nth, up};
 ghost use Rattle.picture.specs.Steps.{Formula, formula};
 ghost use Rattle.layer.specs.Aims.{Fair, Inside, Mixed, Needless};
 ghost use Rattle.layer.specs.Laid.{Laid, Shows};
@@ -38,6 +38,7 @@ fn draw_part<P: Picture, D: Draw>(
     ensures told { area at ≤ length codes.old → Told result (first_in (nth (P.model below.old).shown at) (area at)) }
     ensures keeps { P.model below.new ≡ P.model below.old }
     ensures counts { (n : ℕ) × (P.count below.new ≡ raised n (P.count below.old)) }
+    ensures once { area at ≤ length codes.old → P.count below.new ≡ up (P.count below.old) }
 {
     if at.area() > codes.len() {
         return Err(Undrawn::Uncut);
@@ -64,6 +65,7 @@ impl<P: Picture> Layer<P> {
         ensures spared { (e : Undrawn) → result ≡ Err e → buffer.new ≡ buffer.old }
         ensures told { piece.part.width ≡ 1 → piece.part.height ≡ 1 → (φ : Formula) → Mixed lens (W.weighs filter.weights) filter.scale filter.offset 0 0 φ → Told result (located P.Pixel.ops (taken P.Pixel.ops (P.model self.old.below).shown.maxval (P.model self.old.below).shown.at φ)) }
         ensures kept { Kept P.Pixel.ops P.model P.count self.old self.new }
+        ensures once { piece.part.width ≡ 1 → piece.part.height ≡ 1 → P.count self.new.below ≡ up (P.count self.old.below) }
     {
         let blended: Blended<P::Pixel, W> = Blended {
             lens,
@@ -92,6 +94,7 @@ impl<P: Picture> Layer<P> {
         ensures kept { Kept P.Pixel.ops P.model P.count self.old self.new }
         ensures drawn { Needless (formula self.old.over.step self.old.over.size.width self.old.over.size.height) piece.part → result ≡ Ok tt }
         ensures quiet { Needless (formula self.old.over.step self.old.over.size.width self.old.over.size.height) piece.part → P.count self.new.below ≡ P.count self.old.below }
+        ensures once { piece.part.width ≡ 1 → piece.part.height ≡ 1 → (Needless (formula self.old.over.step self.old.over.size.width self.old.over.size.height) piece.part → ⊥) → P.count self.new.below ≡ up (P.count self.old.below) }
     {
         let Some(aim) = self.over.aim(piece.part) else {
             return Err(Undrawn::Uncut);
