@@ -1,6 +1,6 @@
 ghost use Rattle.std.specs.Prelude.{◌≡◌, ℕ, ◌-◌, ◌<◌, ◌≤◌, List, length, Ok, Err, Some};
 ghost use Rattle.picture.specs.Compose.{taken};
-ghost use Rattle.picture.specs.Prepare.{Shown, area, coded, first_in, nth};
+ghost use Rattle.picture.specs.Prepare.{Shown, area, coded, first_in, nth, up};
 ghost use Rattle.picture.specs.Steps.{Formula, formula};
 ghost use Rattle.layer.specs.Aims.{Fair, Inside, Mixed, Needless};
 ghost use Rattle.layer.specs.Laid.{Laid, Shows};
@@ -21,6 +21,7 @@ use pixel::Kind;
 use std::marker::PhantomData;
 
 /// Draws a part from a region below that is prepared at once.
+#[inline(always)]
 fn draw_part<P: Picture, D: Draw>(
     below: &mut P,
     at: Rect,
@@ -37,6 +38,7 @@ fn draw_part<P: Picture, D: Draw>(
     ensures told { area at ≤ length codes.old → Told result (first_in (nth (P.model below.old).shown at) (area at)) }
     ensures keeps { P.model below.new ≡ P.model below.old }
     ensures counts { (n : ℕ) × (P.count below.new ≡ raised n (P.count below.old)) }
+    ensures once { area at ≤ length codes.old → P.count below.new ≡ up (P.count below.old) }
 {
     if at.area() > codes.len() {
         return Err(Undrawn::Uncut);
@@ -48,6 +50,7 @@ fn draw_part<P: Picture, D: Draw>(
 
 impl<P: Picture> Layer<P> {
     /// A part whose places are windows through this filter, from one prepare below.
+    #[inline(always)]
     fn blend_part<W: Weights>(
         &mut self,
         lens: Lens,
@@ -62,6 +65,7 @@ impl<P: Picture> Layer<P> {
         ensures spared { (e : Undrawn) → result ≡ Err e → buffer.new ≡ buffer.old }
         ensures told { piece.part.width ≡ 1 → piece.part.height ≡ 1 → (φ : Formula) → Mixed lens (W.weighs filter.weights) filter.scale filter.offset 0 0 φ → Told result (located P.Pixel.ops (taken P.Pixel.ops (P.model self.old.below).shown.maxval (P.model self.old.below).shown.at φ)) }
         ensures kept { Kept P.Pixel.ops P.model P.count self.old self.new }
+        ensures once { piece.part.width ≡ 1 → piece.part.height ≡ 1 → P.count self.new.below ≡ up (P.count self.old.below) }
     {
         let blended: Blended<P::Pixel, W> = Blended {
             lens,
@@ -80,6 +84,7 @@ impl<P: Picture> Layer<P> {
     }
 
     /// A part at once; where that part is a single place, nothing but a hole refuses it.
+    #[inline(always)]
     pub(crate) fn block(&mut self, piece: Piece, buffer: &mut [u64]) -> Result<(), Undrawn>
         requires inside { Inside piece.whole (model_of P.Pixel.ops P.model self.old).shown.width (model_of P.Pixel.ops P.model self.old).shown.height }
         requires room { length buffer.old ≡ area piece.whole }
@@ -89,6 +94,7 @@ impl<P: Picture> Layer<P> {
         ensures kept { Kept P.Pixel.ops P.model P.count self.old self.new }
         ensures drawn { Needless (formula self.old.over.step self.old.over.size.width self.old.over.size.height) piece.part → result ≡ Ok tt }
         ensures quiet { Needless (formula self.old.over.step self.old.over.size.width self.old.over.size.height) piece.part → P.count self.new.below ≡ P.count self.old.below }
+        ensures once { piece.part.width ≡ 1 → piece.part.height ≡ 1 → (Needless (formula self.old.over.step self.old.over.size.width self.old.over.size.height) piece.part → ⊥) → P.count self.new.below ≡ up (P.count self.old.below) }
     {
         let Some(aim) = self.over.aim(piece.part) else {
             return Err(Undrawn::Uncut);

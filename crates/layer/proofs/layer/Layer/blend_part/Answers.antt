@@ -39,3 +39,10 @@ returns-clause-told g c pw ph φ m =
     told_as _ _ _
     (λ f e. ap (located o) (sym (mixed_hole o (g.P.Picture.model l.below).shown n (g.W.Weights.weighs k.weights) k.scale k.offset f φ m lone.few.some lone.wide lone.high (fault_of_err _ f e))))
     (c.draw_part.ensures.told room)
+
+pub returns-clause-once : goal.returns-clause-once
+returns-clause-once g c pw ph =
+    let l = c.args.self.now in
+    let n = c.args.lens in
+    let room : n.at.width * n.at.height ≤ length l.scratch = omega (arith, lone_area n (c.requires.fair.lone pw ph)) in
+    c.draw_part.ensures.once room

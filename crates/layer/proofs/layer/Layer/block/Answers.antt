@@ -1,12 +1,12 @@
 use Rattle.std.proofs.Common.{◌≡◌, ℕ, ◌<◌, ◌+◌, ◌-◌, ◌*◌, get_or, pos, Some, sym, ap, ◌∙◌, arith}
 use Rattle.picture.specs.Compose.{taken}
 use Rattle.picture.specs.Prepare.{area, coded}
-use Rattle.picture.specs.Steps.{formula, kernel}
+use Rattle.picture.specs.Steps.{black, formula, kernel, white}
 use Rattle.layer.specs.Aims.{ones, walked, weights_of}
 use Rattle.layer.specs.Layers.{located}
 use Rattle.layer.proofs.Asking.{single_hole}
 use Rattle.layer.proofs.Mixing.{carried_place}
-use Rattle.layer.proofs.Parting.{can_carry, carried_needs, coded_carried, mixed_at, mixed_needs, shows_drawn, aims_as, masked, told_as}
+use Rattle.layer.proofs.Parting.{can_carry, carried_needs, coded_carried, mixed_at, mixed_needs, shows_drawn, aims_as, ground_needless, masked, told_as}
 use Rattle.layer.specs.Placing.{stood}
 use Rattle.layer.proofs.layer.Layer.block.Goals as goal
 use Rattle.layer.proofs.layer.Layer.block.Goals.{in-Black, in-White}
@@ -36,6 +36,16 @@ returns-clause-laid g c z =
           ∙ ap (λ k. Some (o.code k)) (sym (w.pixel-is ∙ w.white-pixel.ensures ∙ ap o.white l.stands.maxval))
     ] in
     shows_drawn o b l.over.step l.over.size c.args.piece.whole p _ _ _ l.stands (λ i j k li lj q. plain i j li lj ∙ ap Some (sym (q ∙ c.code.ensures))) c.lay.ensures
+
+pub returns-clause-once : goal.returns-clause-once
+returns-clause-once g c w h n =
+    let l = c.args.self.now in
+    let p = c.args.piece.part in
+    let φ = formula l.over.step l.over.size.width l.over.size.height in
+    elim c.match-aim-2.branch [
+      | in-Black b ↦ absurd (n (ground_needless φ p black tt (aims_as _ _ φ _ _ p b.in-Black.is c.in-Some.ensures)))
+      | in-White b ↦ absurd (n (ground_needless φ p white tt (aims_as _ _ φ _ _ p b.in-White.is c.in-Some.ensures)))
+    ]
 
 pub returns-in-Copy-clause-laid : goal.returns-in-Copy-clause-laid
 returns-in-Copy-clause-laid g c z =
@@ -79,6 +89,14 @@ returns-in-Copy-clause-quiet g c n =
     let p = c.args.piece.part in
     absurd (carried_needs (formula l.over.step l.over.size.width l.over.size.height) p c.in-Copy.carry (aims_as _ _ (formula l.over.step l.over.size.width l.over.size.height) _ _ p c.in-Copy.is c.in-Some.ensures).1 n)
 
+pub returns-in-Copy-clause-once : goal.returns-in-Copy-clause-once
+returns-in-Copy-clause-once g c w h n =
+    let l = c.args.self.now in
+    let p = c.args.piece.part in
+    let a = aims_as _ _ (formula l.over.step l.over.size.width l.over.size.height) _ _ p c.in-Copy.is c.in-Some.ensures in
+    let one : area c.in-Copy.carry.at ≡ 1 = a.2 w h in
+    c.draw_part.ensures.once (omega arith)
+
 pub returns-in-Mean-clause-laid : goal.returns-in-Mean-clause-laid
 returns-in-Mean-clause-laid g c z =
     let o = g.P.Pixel.Kind.ops in
@@ -110,6 +128,9 @@ returns-in-Mean-clause-quiet g c n =
     let l = c.args.self.now in
     let p = c.args.piece.part in
     absurd (mixed_needs (formula l.over.step l.over.size.width l.over.size.height) p c.in-Mean.lens ones (c.in-Mean.lens.columns * c.in-Mean.lens.rows) (pos 0) (aims_as _ _ (formula l.over.step l.over.size.width l.over.size.height) _ _ p c.in-Mean.is c.in-Some.ensures).1 n)
+
+pub returns-in-Mean-clause-once : goal.returns-in-Mean-clause-once
+returns-in-Mean-clause-once g c w h n = c.blend_part.ensures.once w h
 
 pub returns-in-Masked-clause-laid : goal.returns-in-Masked-clause-laid
 returns-in-Masked-clause-laid g c z =
@@ -146,3 +167,6 @@ returns-in-Masked-clause-quiet g c n =
     let l = c.args.self.now in
     let p = c.args.piece.part in
     absurd (mixed_needs (formula l.over.step l.over.size.width l.over.size.height) p c.in-Masked.lens (weights_of c.in-Masked.mask) (kernel c.in-Masked.mask).scale (kernel c.in-Masked.mask).offset (aims_as _ _ (formula l.over.step l.over.size.width l.over.size.height) _ _ p c.in-Masked.is c.in-Some.ensures).1 n)
+
+pub returns-in-Masked-clause-once : goal.returns-in-Masked-clause-once
+returns-in-Masked-clause-once g c w h n = c.blend_part-in-Masked.ensures.once w h
