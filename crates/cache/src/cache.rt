@@ -14,7 +14,7 @@ pub struct Cache<P: Picture> {
     pub(crate) tiles: Tiles,
     pub(crate) count: u64,
     // each listed slot holds the pixels that the picture below has in its tile
-    ghost ready: { Ready P.Pixel.ops (P.model below).shown shape tiles },
+    pub ghost ready: { Ready P.Pixel.ops (P.model below).shown shape tiles },
     // no tile is listed twice
-    ghost once: { Once (listed tiles.held tiles.len) } by { once_prop (listed tiles.held tiles.len) },
+    pub ghost once: { Once (listed tiles.held tiles.len) } by { once_prop (listed tiles.held tiles.len) },
 }

@@ -15,5 +15,5 @@ pub struct Layer<P: Picture> {
     pub(crate) count: u64,
     pub(crate) scratch: [u64; ROOM],
     // the size is that of the picture below, and the step can stand over it
-    ghost stands: { Stands (P.model below).shown over.step over.size },
+    pub ghost stands: { Stands (P.model below).shown over.step over.size },
 }
