@@ -84,6 +84,7 @@ impl<P: Picture> Layer<P> {
     }
 
     /// A part at once; where that part is a single place, nothing but a hole refuses it.
+    // Inlined, as is what draws for it: in `place` the loops over the one place fall away.
     #[inline(always)]
     pub(crate) fn block(&mut self, piece: Piece, buffer: &mut [u64]) -> Result<(), Undrawn>
         requires inside { Inside piece.whole (model_of P.Pixel.ops P.model self.old).shown.width (model_of P.Pixel.ops P.model self.old).shown.height }
