@@ -14,7 +14,7 @@ use Rattle.picture.specs.Places.{first_fault}
 use Rattle.picture.specs.Images.{Image, Model}
 use Rattle.picture.specs.Prepare.{up, area, nth, answer, filled, Prepared}
 use Rattle.picture.proofs.Faults.{first_same}
-use Rattle.cache.specs.declared.cache.Cache.{Cache}
+use Rattle.cache.specs.declared.keeper.Keeper.{Keeper}
 use Rattle.cache.specs.declared.held.Held.{Held}
 use Rattle.cache.specs.declared.shape.TileShape.{TileShape}
 use Rattle.cache.specs.declared.tile.Tile.{Tile}
@@ -23,6 +23,7 @@ use Rattle.cache.specs.Machine.{State, Walk, going, ended, same, lists, missed, 
 use Rattle.cache.specs.Order.{none, slot_at, listed}
 use Rattle.cache.specs.Grid.{Covers, tile_width, tile_nth, whole}
 use Rattle.cache.specs.Slots.{base, state, again, entered, admitted, holding, Front, Ready}
+use Rattle.cache.specs.Seen.{seen}
 use Rattle.cache.specs.Caching.{state_of}
 use Rattle.cache.specs.Visits.{walk_of, Went}
 use Rattle.cache.proofs.Listing.{Listed, listed-hit, listed_miss, listed-fetched}
@@ -104,7 +105,7 @@ none_of (Some i) h = absurd (h i refl)
 abbrev pub wrote : Tiles → ℕ → ℕ → List ℕ → Tiles
 wrote t start end ys = holding t (put_mid start (end - start) t.entries ys)
 
-module _ {P K S : Type 0} {g : Ghosts P K S} {h : Kinds.Ghosts K S} (c : Cache P K S g h) (x : Tile) where
+module _ {P K S : Type 0} {g : Ghosts P K S} {h : Kinds.Ghosts K S} (c : Keeper P K S g h) (x : Tile) where
   abbrev image : Image K
   image = (g.model c.below).shown
 
@@ -133,7 +134,7 @@ module _ {P K S : Type 0} {g : Ghosts P K S} {h : Kinds.Ghosts K S} (c : Cache P
     pub front_hit : (w : Tiles) → w ≡ again c.tiles i → Front w x
     front_hit w e = subst (λ v. Front v x) (sym e) (record { some = omega (arith, here.below); at = here.at })
 
-    pub went_hit : (d : Cache P K S g h) → d.below ≡ c.below → d.shape ≡ c.shape → d.tiles ≡ again c.tiles i → d.count ≡ c.count → Went g.model g.count visiting c (Ok tt) d
+    pub went_hit : (d : Keeper P K S g h) → d.below ≡ c.below → d.shape ≡ c.shape → d.tiles ≡ again c.tiles i → d.count ≡ c.count → Went g.model g.count visiting c (Ok tt) d
     went_hit d eb es et ec =
         record {
           machine = ap (λ p. going (state d.tiles (g.count p))) eb ∙ ap (λ t. going (state t (g.count c.below))) et ∙ hit_machine h.ops image c.shape c.tiles c.ready x i (g.count c.below) here;
@@ -143,7 +144,7 @@ module _ {P K S : Type 0} {g : Ghosts P K S} {h : Kinds.Ghosts K S} (c : Cache P
         }
 
 -- the visit of a tile that is not listed: below was asked for its rectangle, to be put in the spare slot
-pub record Asked {P K S : Type 0} {g : Ghosts P K S} {h : Kinds.Ghosts K S} (c : Cache P K S g h) (x : Tile) (rect : Rect) (start end : ℕ) (q : P) (r : Result Unit Refusal) (ys : List ℕ) : Type 0 where
+pub record Asked {P K S : Type 0} {g : Ghosts P K S} {h : Kinds.Ghosts K S} (c : Keeper P K S g h) (x : Tile) (rect : Rect) (start end : ℕ) (q : P) (r : Result Unit Refusal) (ys : List ℕ) : Type 0 where
   pub absent : place c x ≡ None
   pub covers : Covers c.shape (image c x).width (image c x).height x rect
   pub begins : start ≡ base (slot_at c.tiles.held c.tiles.len)
@@ -151,7 +152,7 @@ pub record Asked {P K S : Type 0} {g : Ghosts P K S} {h : Kinds.Ghosts K S} (c :
   pub prep : Prepared h.ops g.model g.count c.below rect (take (end - start) (drop start c.tiles.entries)) r q ys
   pub long : length ys ≡ length (take (end - start) (drop start c.tiles.entries))
 
-module _ {P K S : Type 0} {g : Ghosts P K S} {h : Kinds.Ghosts K S} {c : Cache P K S g h} {x : Tile} {rect : Rect} {start end : ℕ} {q : P} {r : Result Unit Refusal} {ys : List ℕ} (a : Asked c x rect start end q r ys) where
+module _ {P K S : Type 0} {g : Ghosts P K S} {h : Kinds.Ghosts K S} {c : Keeper P K S g h} {x : Tile} {rect : Rect} {start end : ℕ} {q : P} {r : Result Unit Refusal} {ys : List ℕ} (a : Asked c x rect start end q r ys) where
   not_listed : lists (listed c.tiles.held c.tiles.len) x ≡ false
   not_listed = listed_miss c.tiles.held c.tiles.len x (room h.ops (image c x) c.shape c.tiles c.ready x) a.absent
 
@@ -175,13 +176,13 @@ module _ {P K S : Type 0} {g : Ghosts P K S} {h : Kinds.Ghosts K S} {c : Cache P
   kept_err = kept_below (wrote c.tiles start end ys) written c.once
 
   -- `b` is what the visit answers
-  pub went_err : (e : Refusal) → r ≡ Err e → (b : Result Unit Refusal) → b ≡ Err e → (d : Cache P K S g h) → d.below ≡ q → d.shape ≡ c.shape → d.tiles ≡ wrote c.tiles start end ys → d.count ≡ c.count
+  pub went_err : (e : Refusal) → r ≡ Err e → (b : Result Unit Refusal) → b ≡ Err e → (d : Keeper P K S g h) → d.below ≡ q → d.shape ≡ c.shape → d.tiles ≡ wrote c.tiles start end ys → d.count ≡ c.count
       → Went g.model g.count (visiting c x) c b d
   went_err e is b ea d eb eh et ec =
       let f = fetched_err h.ops (image c x) c.shape c.tiles c.ready x rect (take (end - start) (drop start c.tiles.entries)) (end - start) a.covers part_length (omega (arith, a.ends))
       (number_of e) (values_of e) (ap outcome (sym is) ∙ a.prep.answers) in
       record {
-        machine = ap (λ w. walk_of w (state_of g.count d)) ea ∙ ap (λ p. ended (state d.tiles (g.count p))) eb ∙ ap (λ t. ended (state t (g.count q))) et
+        machine = ap (λ w. walk_of w (state_of g.count (seen d))) ea ∙ ap (λ p. ended (state d.tiles (g.count p))) eb ∙ ap (λ t. ended (state t (g.count q))) et
             ∙ miss_machine h.ops (image c x) c.shape c.tiles c.ready x _ (g.count c.below) not_listed (refuse_machine h.ops (image c x) c.shape c.tiles c.ready x (wrote c.tiles start end ys).entries (g.count c.below) (g.count q) a.prep.counts f);
         keeps = ap g.model eb ∙ a.prep.keeps;
         shape = eh;
@@ -202,7 +203,7 @@ module _ {P K S : Type 0} {g : Ghosts P K S} {h : Kinds.Ghosts K S} {c : Cache P
         subst (Kept h.ops (g.model q).shown c.shape) (sym e) (kept_below (admitted c.shape.slots x t) full.1
         (subst Once (sym (fetch_list h.ops (image c x) c.shape c.tiles c.ready x t.entries)) (once_take c.shape.slots (x ∷ ts) (not_listed, c.once))))
 
-    pub went_ok : (d : Cache P K S g h) → d.below ≡ q → d.shape ≡ c.shape → d.tiles ≡ admitted c.shape.slots x (wrote c.tiles start end ys) → d.count ≡ c.count → Went g.model g.count (visiting c x) c (Ok tt) d
+    pub went_ok : (d : Keeper P K S g h) → d.below ≡ q → d.shape ≡ c.shape → d.tiles ≡ admitted c.shape.slots x (wrote c.tiles start end ys) → d.count ≡ c.count → Went g.model g.count (visiting c x) c (Ok tt) d
     went_ok d eb eh et ec =
         record {
           machine = ap (λ p. going (state d.tiles (g.count p))) eb ∙ ap (λ t. going (state t (g.count q))) et

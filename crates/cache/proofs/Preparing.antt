@@ -1,5 +1,5 @@
 -- A prepare by tiles: what it answers, and what the machine has done.
-use Rattle.std.proofs.Common.{◌≡◌, ℕ, ◌+◌, ◌-◌, ◌*◌, ◌/◌, ◌%◌, ◌<◌, ◌≤◌, true, false, ◌&&◌, leb, List, length, get_or, drop, Some, Ok, Err, Result, sym, ap, ◌∙◌, subst, mul_comm, arith}
+use Rattle.std.proofs.Common.{◌≡◌, ℕ, ◌+◌, ◌-◌, ◌*◌, ◌/◌, ◌%◌, ◌<◌, ◌≤◌, true, false, ◌&&◌, leb, List, length, get_or, drop, Some, Ok, Result, sym, ap, ◌∙◌, subst, mul_comm, arith}
 use Rattle.std.proofs.lemmas.Nat.{mul-add-lt, mod_below, div_below, div-add-mod'}
 use Rattle.std.proofs.lemmas.List.{ext_get_or, get_or-drop, length-drop}
 use Rattle.std.proofs.lemmas.Bool.{and_from, le-leb, cond-true, cond-false}
@@ -8,13 +8,12 @@ use Rattle.pixel.specs.declared.kind.Kind as Kinds
 use Rattle.pixel.specs.Ops.{Ops}
 use Rattle.picture.specs.declared.fault.Refusal.{Refusal}
 use Rattle.picture.specs.declared.rect.Rect.{Rect}
-use Rattle.picture.specs.Refusals.{done, outcome, told}
+use Rattle.picture.specs.Refusals.{done, outcome}
 use Rattle.picture.specs.declared.fault.Refusal.{Refusal}
-use Rattle.picture.proofs.Serving.{refused_answer}
 use Rattle.picture.specs.Images.{Image, Model}
-use Rattle.picture.specs.Prepare.{Admitted, up, area, inside, nth, answer, Shown, filled, Prepared}
+use Rattle.picture.specs.Prepare.{up, area, inside, nth, answer, Shown, filled, Prepared}
 use Rattle.picture.specs.Region.{Within}
-use Rattle.cache.specs.declared.cache.Cache.{Cache}
+use Rattle.cache.specs.declared.keeper.Keeper.{Keeper}
 use Rattle.cache.specs.declared.shape.TileShape.{TileShape}
 use Rattle.cache.specs.declared.tiles.Tiles.{Tiles}
 use Rattle.cache.specs.Machine.{State, Walk, going, ended, settled, Accounts}
@@ -23,6 +22,7 @@ use Rattle.cache.specs.Grid.{across, down}
 use Rattle.cache.specs.Boxes.{spot, Beyond}
 use Rattle.cache.specs.Slots.{state}
 use Rattle.cache.specs.Walks.{over_tiles, Served}
+use Rattle.cache.specs.Seen.{seen}
 use Rattle.cache.specs.Caching.{prepared, state_of, model_of, Worked}
 use Rattle.cache.proofs.Listing.{length-listed}
 use Rattle.cache.proofs.Keeping.{long}
@@ -76,15 +76,15 @@ module _ {K S : Type 0} (o : Ops K S) (b : Image K) (s : TileShape) (rect : Rect
 abbrev pub counting : Tiles → ℕ → Tiles
 counting t n = record { held = t.held; len = t.len; entries = t.entries; counts = record { hits = t.counts.hits; fetches = t.counts.fetches; bypasses = n } }
 
-module _ {P K S : Type 0} {g : Ghosts P K S} {h : Kinds.Ghosts K S} (c : Cache P K S g h) where
+module _ {P K S : Type 0} {g : Ghosts P K S} {h : Kinds.Ghosts K S} (c : Keeper P K S g h) where
   abbrev image : Image K
   image = (g.model c.below).shown
 
   -- the laws of the machine, for a cache that does what the machine does
-  worked : (d : Cache P K S g h) (r : Rect) (n : ℕ) → d.shape ≡ c.shape → state_of g.count d ≡ prepared image c.shape r n (state_of g.count c)
-      → Worked g.model g.count c r n d
+  worked : (d : Keeper P K S g h) (r : Rect) (n : ℕ) → d.shape ≡ c.shape → state_of g.count (seen d) ≡ prepared image c.shape r n (state_of g.count (seen c))
+      → Worked g.model g.count (seen c) r n (seen d)
   worked d r n shape e =
-      let st = state_of g.count c in
+      let st = state_of g.count (seen c) in
       record {
         shape = shape;
         machine = e;
@@ -94,36 +94,36 @@ module _ {P K S : Type 0} {g : Ghosts P K S} {h : Kinds.Ghosts K S} (c : Cache P
         held = λ all. ap (λ (v : State). v.asked) e ∙ quiet_prepared image c.shape r n st all;
       }
 
-  abbrev Both : Rect → List ℕ → Cache P K S g h → Result Unit Refusal → List ℕ → Type 0
-  Both r buf d a after = record { prepared : Prepared h.ops (model_of g.model) (λ v. v.count) c r buf a d after; worked : Worked g.model g.count c r (length buf) d }
+  abbrev Both : Rect → List ℕ → Keeper P K S g h → Result Unit Refusal → List ℕ → Type 0
+  Both r buf d a after = record { prepared : Prepared h.ops (λ v. model_of g.model (seen v)) (λ v. v.count) c r buf a d after; worked : Worked g.model g.count (seen c) r (length buf) (seen d) }
 
   -- refused with 10 or 11
-  pub refused_so : (r : Rect) (buf : List ℕ) (d : Cache P K S g h) → d.count ≡ up c.count → d.shape ≡ c.shape → g.model d.below ≡ g.model c.below → state_of g.count d ≡ state_of g.count c
+  pub refused_so : (r : Rect) (buf : List ℕ) (d : Keeper P K S g h) → d.count ≡ up c.count → d.shape ≡ c.shape → g.model d.below ≡ g.model c.below → state_of g.count (seen d) ≡ state_of g.count (seen c)
       → (a : Result Unit Refusal) → (outcome a ≡ answer image r (length buf)) × (buf ≡ filled h.ops image r buf) × ((st : State) → st ≡ prepared image c.shape r (length buf) st)
       → Both r buf d a buf
   refused_so r buf d counted shape keeps same a f =
       record {
         prepared = record { answers = f.0; fills = f.1; counts = counted; keeps = keeps };
-        worked = worked d r (length buf) shape (same ∙ f.2 (state_of g.count c));
+        worked = worked d r (length buf) shape (same ∙ f.2 (state_of g.count (seen c)));
       }
 
   module _ (r : Rect) (buf : List ℕ) (x : r.left + r.width ≤ image.width) (y : r.top + r.height ≤ image.height) (z : area r ≤ length buf) (to : List ℕ) (len : length to ≡ length buf) (beyond : Beyond r buf to) where
     -- served by tiles
-    pub served_so : (d : Cache P K S g h) → d.count ≡ up c.count → d.shape ≡ c.shape → g.model d.below ≡ g.model c.below → going (state_of g.count d) ≡ over_tiles image c.shape r (state_of g.count c)
+    pub served_so : (d : Keeper P K S g h) → d.count ≡ up c.count → d.shape ≡ c.shape → g.model d.below ≡ g.model c.below → going (state_of g.count (seen d)) ≡ over_tiles image c.shape r (state_of g.count (seen c))
         → Served h.ops image c.shape r to (across c.shape r * down c.shape r) → Both r buf d (Ok tt) to
     served_so d counted shape keeps e served =
         let f = by_tiles h.ops image c.shape r buf x y z to len beyond served in
         record {
           prepared = record { answers = f.0; fills = f.1; counts = counted; keeps = keeps };
-          worked = worked d r (length buf) shape (machine h.ops image c.shape r buf x y z (going (state_of g.count d)) (state_of g.count c) e);
+          worked = worked d r (length buf) shape (machine h.ops image c.shape r buf x y z (going (state_of g.count (seen d))) (state_of g.count (seen c)) e);
         }
 
     -- passed on below, by a cache that has walked
-    pub passed_so : (d e : Cache P K S g h) → d.count ≡ up c.count → d.shape ≡ c.shape → g.model e.below ≡ g.model c.below → ended (state_of g.count e) ≡ over_tiles image c.shape r (state_of g.count c)
+    pub passed_so : (d e : Keeper P K S g h) → d.count ≡ up c.count → d.shape ≡ c.shape → g.model e.below ≡ g.model c.below → ended (state_of g.count (seen e)) ≡ over_tiles image c.shape r (state_of g.count (seen c))
         → d.tiles ≡ counting e.tiles (up e.tiles.counts.bypasses) → (a : Result Unit Refusal) (after : List ℕ) → Prepared h.ops g.model g.count e.below r to a d.below after → Both r buf d a after
     passed_so d e counted shape keeps ends tiles a after prep =
         let st = ap (λ t. state t (g.count d.below)) tiles ∙ ap (λ n. state (counting e.tiles (up e.tiles.counts.bypasses)) n) prep.counts
-        ∙ machine h.ops image c.shape r buf x y z (ended (state_of g.count e)) (state_of g.count c) ends in
+        ∙ machine h.ops image c.shape r buf x y z (ended (state_of g.count (seen e))) (state_of g.count (seen c)) ends in
         record {
           prepared = record {
             answers = prep.answers ∙ ap (λ (i : Model K). answer i.shown r (length to)) keeps ∙ ap (answer image r) len;

@@ -12,7 +12,7 @@ use Rattle.picture.specs.Images.{Image, Model}
 use Rattle.picture.specs.Prepare.{coded}
 use Rattle.picture.specs.Region.{Within}
 use Rattle.picture.specs.declared.fault.Refusal.{Refusal}
-use Rattle.cache.specs.declared.cache.Cache.{Cache}
+use Rattle.cache.specs.declared.keeper.Keeper.{Keeper}
 use Rattle.cache.specs.declared.held.Held.{Held}
 use Rattle.cache.specs.declared.shape.TileShape.{TileShape}
 use Rattle.cache.specs.declared.tile.Tile.{Tile}
@@ -23,6 +23,7 @@ use Rattle.cache.specs.Grid.{Covers, whole, tile_width, tile_height, span, acros
 use Rattle.cache.specs.Boxes.{spot, Beyond, Overlaid}
 use Rattle.cache.specs.Slots.{base, Front, Good, Ready}
 use Rattle.cache.specs.Walks.{Served}
+use Rattle.cache.specs.Seen.{seen}
 use Rattle.cache.specs.Caching.{state_of}
 use Rattle.cache.specs.Visits.{walk_of, Went}
 
@@ -76,30 +77,30 @@ module _ (slots : ℕ) (whole : Tile → Bool) (f : ℕ → Tile) (s : State) wh
       ap (λ k. walked slots whole f k s) (sym q) ∙ walk_stays n (m - n) st e
 
 -- the walk of a cache c, which has become d and then e
-module _ {P K S : Type 0} {g : Ghosts P K S} {h : Kinds.Ghosts K S} (f : ℕ → Tile) (c : Cache P K S g h) where
+module _ {P K S : Type 0} {g : Ghosts P K S} {h : Kinds.Ghosts K S} (f : ℕ → Tile) (c : Keeper P K S g h) where
   abbrev pub sofar : ℕ → State → Walk
   sofar k = walked c.shape.slots (whole (g.model c.below).shown c.shape) f k
 
-  pub went_more : (d e : Cache P K S g h) (k : ℕ) (x : Tile) (r : Result Unit Refusal) → x ≡ f k → Went g.model g.count (sofar k) c (Ok tt) d
+  pub went_more : (d e : Keeper P K S g h) (k : ℕ) (x : Tile) (r : Result Unit Refusal) → x ≡ f k → Went g.model g.count (sofar k) c (Ok tt) d
       → Went g.model g.count (λ st. visited d.shape.slots (whole (g.model d.below).shown d.shape) st x) d r e → Went g.model g.count (sofar (k + 1)) c r e
   went_more d e k x r is a h =
       let b = (g.model c.below).shown in
-      let st = state_of g.count d in
-      let m : walk_of r (state_of g.count e) ≡ visited c.shape.slots (whole b c.shape) st (f k) =
+      let st = state_of g.count (seen d) in
+      let m : walk_of r (state_of g.count (seen e)) ≡ visited c.shape.slots (whole b c.shape) st (f k) =
       h.machine ∙ ap (λ (s : TileShape). visited s.slots (whole (g.model d.below).shown s) st x) a.shape
       ∙ ap (λ (n : Model K). visited c.shape.slots (whole n.shown c.shape) st x) a.keeps ∙ ap (visited c.shape.slots (whole b c.shape) st) is in
       record {
-        machine = sym (walk_more c.shape.slots (whole b c.shape) f (state_of g.count c) k st (walk_of r (state_of g.count e)) (sym a.machine) m);
+        machine = sym (walk_more c.shape.slots (whole b c.shape) f (state_of g.count (seen c)) k st (walk_of r (state_of g.count (seen e))) (sym a.machine) m);
         keeps = h.keeps ∙ a.keeps;
         shape = h.shape ∙ a.shape;
         counted = h.counted ∙ a.counted;
       }
 
-  pub went_ended : (e : Cache P K S g h) (k n : ℕ) (r a : Result Unit Refusal) (z : Refusal) → r ≡ Err z → a ≡ Err z → k ≤ n → Went g.model g.count (sofar k) c r e → Went g.model g.count (sofar n) c a e
+  pub went_ended : (e : Keeper P K S g h) (k n : ℕ) (r a : Result Unit Refusal) (z : Refusal) → r ≡ Err z → a ≡ Err z → k ≤ n → Went g.model g.count (sofar k) c r e → Went g.model g.count (sofar n) c a e
   went_ended e k n r a z er ea le h =
-      let m : ended (state_of g.count e) ≡ sofar k (state_of g.count c) = ap (λ w. walk_of w (state_of g.count e)) (sym er) ∙ h.machine in
+      let m : ended (state_of g.count (seen e)) ≡ sofar k (state_of g.count (seen c)) = ap (λ w. walk_of w (state_of g.count (seen e))) (sym er) ∙ h.machine in
       record {
-        machine = ap (λ w. walk_of w (state_of g.count e)) ea ∙ sym (walk_ends c.shape.slots (whole (g.model c.below).shown c.shape) f (state_of g.count c) k n (state_of g.count e) le (sym m));
+        machine = ap (λ w. walk_of w (state_of g.count (seen e))) ea ∙ sym (walk_ends c.shape.slots (whole (g.model c.below).shown c.shape) f (state_of g.count (seen c)) k n (state_of g.count (seen e)) le (sym m));
         keeps = h.keeps;
         shape = h.shape;
         counted = h.counted;
@@ -205,15 +206,15 @@ all_done s rect row e =
     omega (arith, ap (λ n. n * across s rect) f, mul_comm (down s rect) (across s rect))
 
 -- the walk of a cache c, which has become d behind the first n tiles, where `to` holds what they gave
-module _ {P K S : Type 0} {g : Ghosts P K S} {h : Kinds.Ghosts K S} (rect : Rect) (c : Cache P K S g h) (was : List ℕ) where
-  pub record Sofar (n : ℕ) (d : Cache P K S g h) (to : List ℕ) : Type 0 where
+module _ {P K S : Type 0} {g : Ghosts P K S} {h : Kinds.Ghosts K S} (rect : Rect) (c : Keeper P K S g h) (was : List ℕ) where
+  pub record Sofar (n : ℕ) (d : Keeper P K S g h) (to : List ℕ) : Type 0 where
     pub went : Went g.model g.count (sofar (touched c.shape rect) c n) c (Ok tt) d
     pub served : Served h.ops (g.model c.below).shown c.shape rect to n
     pub rest : Beyond rect was to
 
   module _ (in-x : rect.left + rect.width ≤ (g.model c.below).shown.width) (in-y : rect.top + rect.height ≤ (g.model c.below).shown.height) where
     -- one more tile
-    pub further : (n m : ℕ) → m ≡ n + 1 → (d e : Cache P K S g h) (x : Tile) (cell : Rect) (to part after : List ℕ) → Sofar n d to → x ≡ touched c.shape rect n
+    pub further : (n m : ℕ) → m ≡ n + 1 → (d e : Keeper P K S g h) (x : Tile) (cell : Rect) (to part after : List ℕ) → Sofar n d to → x ≡ touched c.shape rect n
         → Went g.model g.count (λ st. visited d.shape.slots (whole (g.model d.below).shown d.shape) st x) d (Ok tt) e → Front e.tiles x
         → Covers c.shape (g.model c.below).shown.width (g.model c.below).shown.height x cell → part ≡ drop (base (slot_at e.tiles.held 0)) e.tiles.entries → Overlaid part cell rect to after → Sofar m e after
     further n m em d e x cell to part after sofar is went front covers ep over =

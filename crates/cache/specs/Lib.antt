@@ -6,7 +6,9 @@ pub mod Grid
 pub mod Boxes
 pub mod Slots
 pub mod Walks
+pub mod Cached
 pub mod Caching
+pub mod Seen
 pub mod Visits
 pub mod Laws
 pub mod Samples

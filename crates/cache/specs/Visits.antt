@@ -2,8 +2,9 @@
 use Rattle.std.specs.Prelude.{◌≡◌, ℕ, Ok, Err, Result}
 use Rattle.picture.specs.declared.fault.Refusal.{Refusal}
 use Rattle.picture.specs.Images.{Model}
-use Rattle.cache.specs.declared.cache.Cache.{Cache}
+use Rattle.cache.specs.declared.keeper.Keeper.{Keeper}
 use Rattle.cache.specs.Machine.{State, Walk, going, ended}
+use Rattle.cache.specs.Seen.{seen}
 use Rattle.cache.specs.Caching.{state_of}
 
 -- a walk that goes on, or ended
@@ -13,8 +14,8 @@ walk_of (Err e) s = ended s
 
 module _ {P K S : Type 0} {g : _} {h : _} (model : P → Model K) (count : P → ℕ) where
   -- the cache c has become d; w is what the machine makes of its state
-  pub record Went (w : State → Walk) (c : Cache P K S g h) (r : Result Unit Refusal) (d : Cache P K S g h) : Type 0 where
-    pub machine : walk_of r (state_of count d) ≡ w (state_of count c)
+  pub record Went (w : State → Walk) (c : Keeper P K S g h) (r : Result Unit Refusal) (d : Keeper P K S g h) : Type 0 where
+    pub machine : walk_of r (state_of count (seen d)) ≡ w (state_of count (seen c))
     pub keeps : model d.below ≡ model c.below
     pub shape : d.shape ≡ c.shape
     pub counted : d.count ≡ c.count

@@ -6,6 +6,7 @@ mod blit;
 mod cache;
 mod counts;
 mod held;
+mod keeper;
 mod laws;
 mod limits;
 mod order;

@@ -4,7 +4,7 @@ ghost use Rattle.cache.specs.Grid.{Covers, whole};
 ghost use Rattle.cache.specs.Slots.{Front};
 ghost use Rattle.cache.specs.Visits.{Went};
 
-use crate::cache::Cache;
+use crate::keeper::Keeper;
 use crate::shape::TileShape;
 use crate::tile::Tile;
 use picture::{Picture, Rect, Refusal, Size};
@@ -25,7 +25,7 @@ pub fn cell(shape: TileShape, size: Size, tile: Tile) -> Rect
     }
 }
 
-impl<P: Picture> Cache<P> {
+impl<P: Picture> Keeper<P> {
     /// Makes a tile, whose rectangle is `cell`, the first of the list, unless it is refused below.
     pub(crate) fn visit(&mut self, tile: Tile, cell: Rect) -> Result<(), Refusal>
         requires { Covers self.old.shape (P.model self.old.below).shown.width (P.model self.old.below).shown.height tile cell }

@@ -7,7 +7,7 @@ ghost use Rattle.cache.specs.Walks.{Served, over_tiles};
 ghost use Rattle.cache.specs.Visits.{Went};
 
 use crate::blit::overlay;
-use crate::cache::Cache;
+use crate::keeper::Keeper;
 use crate::tile::Tile;
 use crate::visit::cell;
 use picture::{Picture, Rect, Refusal, Size};
@@ -26,7 +26,7 @@ fn reach(from: u32, count: u32, side: u32) -> u32
     (from + count - 1) / side - from / side + 1
 }
 
-impl<P: Picture> Cache<P> {
+impl<P: Picture> Keeper<P> {
     /// Copies a rectangle out of its tiles, tile by tile, until one is refused below; `size` is that of the picture.
     pub(crate) fn walk(&mut self, size: Size, rect: Rect, buffer: &mut [u64]) -> Result<(), Refusal>
         requires wide { size.width ≡ (P.model self.old.below).shown.width }

@@ -1,7 +1,7 @@
 use crate::drive::{Sum, drive};
 use crate::error::CaseError;
 use crate::words::{Command, bytes_of, commands, shape};
-use cache::{Cache, Counts};
+use cache::{Cache, Counts, TileShape};
 use layer::Layer;
 use picture::{Picture, Step, Turn};
 use pixel::{Grey, Kind};
@@ -88,14 +88,14 @@ impl Form {
 
 /// Drives a cache; what is told of the picture below it comes from `lower`.
 fn driven<P: Picture + Drop, F: Fn(&P) -> Option<Counts>>(
-    mut cache: Cache<P>,
+    cache: &mut Cache<P>,
     lower: F,
     commands: &[Command],
     buffer: &mut [u64],
 ) -> Outcome
     requires { F.IsAlwaysCallable lower }
 {
-    let sum = drive(&mut cache, commands, buffer);
+    let sum = drive(cache, commands, buffer);
     Outcome {
         sum,
         prepares: cache.count(),
@@ -105,29 +105,77 @@ fn driven<P: Picture + Drop, F: Fn(&P) -> Option<Counts>>(
     }
 }
 
-/// The run of a line over a picture.
-fn run<P: Picture + Drop>(
+// A function for each form, and no `?` where a picture is handed back: a function clears room for all that it may hold, at each line.
+
+fn one<P: Picture + Drop>(
     below: P,
-    line: &str,
+    shape: TileShape,
+    commands: &[Command],
+    buffer: &mut [u64],
+) -> Outcome {
+    let mut cache = Cache::new(shape, below);
+    driven(&mut cache, |_| None, commands, buffer)
+}
+
+fn two<P: Picture + Drop>(
+    below: P,
+    shapes: [TileShape; 2],
+    commands: &[Command],
+    buffer: &mut [u64],
+) -> Outcome {
+    let mut cache = Cache::new(shapes[1], Cache::new(shapes[0], below));
+    driven(&mut cache, |lower| Some(lower.counts()), commands, buffer)
+}
+
+fn stack<P: Picture + Drop>(
+    below: P,
+    shapes: [TileShape; 3],
     commands: &[Command],
     buffer: &mut [u64],
 ) -> Result<Outcome, CaseError> {
-    let lowest = Cache::new(shape(line, 0)?, below);
-    match Form::of(line) {
-        Form::One => Ok(driven(lowest, |_| None, commands, buffer)),
+    match Layer::new(Cache::new(shapes[0], below), Step::Rot(Turn::D90)) {
+        Ok(turned) => shrunk(Cache::new(shapes[1], turned), shapes[2], commands, buffer),
+        Err(refused) => Err(CaseError::from(refused.refusal)),
+    }
+}
+
+/// One cache over a shrunk picture.
+fn shrunk<P: Picture + Drop>(
+    below: P,
+    shape: TileShape,
+    commands: &[Command],
+    buffer: &mut [u64],
+) -> Result<Outcome, CaseError> {
+    match Layer::new(below, Step::Shrink { across: 2, down: 2 }) {
+        Ok(shrunk) => Ok(one(shrunk, shape, commands, buffer)),
+        Err(refused) => Err(CaseError::from(refused.refusal)),
+    }
+}
+
+/// The run of a line over a picture. Its commands are read last, since there may be more of them than memory has room for.
+fn run<P: Picture + Drop>(
+    below: P,
+    heap: Global,
+    line: &str,
+    buffer: &mut [u64],
+) -> Result<Outcome, CaseError> {
+    let form = Form::of(line);
+    let behind = form.picture_at().saturating_add(1);
+    let first = shape(line, 0)?;
+    match form {
+        Form::One => {
+            let commands = commands(heap, line, behind)?;
+            Ok(one(below, first, commands.as_slice(), buffer))
+        }
         Form::Two => {
-            let upper = Cache::new(shape(line, 1)?, lowest);
-            Ok(driven(upper, |lower| Some(lower.counts()), commands, buffer))
+            let shapes = [first, shape(line, 1)?];
+            let commands = commands(heap, line, behind)?;
+            Ok(two(below, shapes, commands.as_slice(), buffer))
         }
         Form::Stack => {
-            let middle = shape(line, 1)?;
-            let upper = shape(line, 2)?;
-            let turned = Layer::new(lowest, Step::Rot(Turn::D90))?;
-            let shrunk = Layer::new(
-                Cache::new(middle, turned),
-                Step::Shrink { across: 2, down: 2 },
-            )?;
-            Ok(driven(Cache::new(upper, shrunk), |_| None, commands, buffer))
+            let shapes = [first, shape(line, 1)?, shape(line, 2)?];
+            let commands = commands(heap, line, behind)?;
+            stack(below, shapes, commands.as_slice(), buffer)
         }
     }
 }
@@ -136,13 +184,12 @@ fn run<P: Picture + Drop>(
 fn run_line(heap: Global, line: &str) -> Result<Outcome, CaseError> {
     let at = Form::of(line).picture_at();
     let bytes = bytes_of(heap, line.split_whitespace().nth(at).unwrap_or(""))?;
-    let commands = commands(heap, line, at.saturating_add(1))?;
     let mut buffer = [0u64; 4096];
     let store = Bytes {
         bytes: bytes.as_slice(),
     };
     let file = FileSource::<Bytes, Grey>::open(store, 0)?;
-    run(file, line, commands.as_slice(), &mut buffer)
+    run(file, heap, line, &mut buffer)
 }
 
 /// What came of the run of a line.

@@ -82,27 +82,22 @@ impl Way {
     }
 }
 
-/// A drag whose numbers are still being read.
-#[derive(Drop)]
-struct Pending {
-    way: Way,
-    numbers: Vec<u32>,
-}
-
 /// The commands that the words behind the picture write.
 pub fn commands(heap: Global, line: &str, skip: usize) -> Result<Vec<Command>, AllocError> {
     let mut all = Vec::new(heap);
-    let mut pending: Option<Pending> = None;
+    // the way of a drag whose numbers are still being read, and those read so far, in one buffer for all drags
+    let mut pending: Option<Way> = None;
+    let mut numbers = Vec::new(heap);
     for word in line.split_whitespace().skip(skip) {
         if word == "f" {
             all.push(Command::Forget)?;
         } else if let Some(way) = Way::of(word) {
-            let numbers = Vec::new(heap);
-            pending = Some(Pending { way, numbers });
-        } else if let Some(drag) = &mut pending {
-            drag.numbers.push(number(Some(word)))?;
-            if let Some(read) = Drag::of(drag.numbers.as_slice()) {
-                all.push(Command::Drag(drag.way, read))?;
+            pending = Some(way);
+            numbers.clear();
+        } else if let Some(way) = pending {
+            numbers.push(number(Some(word)))?;
+            if let Some(drag) = Drag::of(numbers.as_slice()) {
+                all.push(Command::Drag(way, drag))?;
                 pending = None;
             }
         }

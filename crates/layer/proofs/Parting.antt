@@ -44,6 +44,10 @@ carried_needs φ p c e n = carried_ground c 0 0 _ (e 0 0 p.wide p.high) (n 0 0 p
 pub mixed_needs : (φ : ℕ → ℕ → Formula) (p : Rect) (l : Lens) (w : ℕ → ℤ) (s : ℕ) (f : ℤ) → Each φ p (Mixed l w s f) → Needless φ p → ⊥
 mixed_needs φ p l w s f e n = mixed_ground l w s f 0 0 _ (e 0 0 p.wide p.high) (n 0 0 p.wide p.high)
 
+-- a part of grounds needs nothing of below
+pub ground_needless : (φ : ℕ → ℕ → Formula) (p : Rect) (f : Formula) → Ground f → Each φ p (λ i j g. g ≡ f) → Needless φ p
+ground_needless φ p f h e i j li lj = subst Ground (sym (e i j li lj)) h
+
 pub mixed_at : (l : Lens) (w : ℕ → ℤ) (s : ℕ) (f : ℤ) (i j : ℕ) (p : Rect) (φ : Formula) → Mixed l w s f i j φ → Mixed l w s f (p.left + i - p.left) (p.top + j - p.top) φ
 mixed_at l w s f i j p φ m =
     let ei : i ≡ p.left + i - p.left = omega arith in

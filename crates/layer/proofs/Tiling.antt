@@ -6,12 +6,13 @@ use Rattle.picture.specs.declared.size.Size.{Size}
 use Rattle.picture.specs.declared.step.Step.{Step}
 use Rattle.picture.specs.Images.{Image, Model}
 use Rattle.picture.specs.Steps.{Formula, formula}
-use Rattle.layer.specs.declared.layer.Layer.{Layer}
+use Rattle.layer.specs.declared.drawer.Drawer.{Drawer}
 use Rattle.layer.specs.Aims.{Ground, Needless}
 use Rattle.layer.specs.declared.cut.Cut.{Cut}
 use Rattle.layer.specs.declared.cut.Cut.TheVariants.{Across, Down}
 use Rattle.layer.specs.Cuts.{Above, Beside, Halves}
 use Rattle.layer.specs.Laid.{Laid, Part, Shows}
+use Rattle.layer.specs.Seen.{seen}
 use Rattle.layer.specs.Layers.{Kept}
 use Rattle.layer.specs.Standing.{Stands}
 use Rattle.layer.proofs.Laying.{laid_above, laid_beside}
@@ -51,7 +52,7 @@ needless_part φ p q k n i j li lj =
     (subst (λ (x : ℕ). Ground (φ x (p.top + (q.top - p.top + j)))) ex (n (q.left - p.left + i) (q.top - p.top + j) (omega (arith, k.left, k.right)) (omega (arith, k.top, k.bottom))))
 
 -- and so it does of the layer that was kept
-pub needless_kept : {P K S : Type 0} {g : _} {h : _} (o : Ops K S) (model : P → Model K) (count : P → ℕ) (l m : Layer P K S g h) (p : Rect) → Kept o model count l m → Needless (formula l.over.step l.over.size.width l.over.size.height) p → Needless (formula m.over.step m.over.size.width m.over.size.height) p
+pub needless_kept : {P K S : Type 0} {g : _} {h : _} (o : Ops K S) (model : P → Model K) (count : P → ℕ) (l m : Drawer P K S g h) (p : Rect) → Kept o model count (seen l) (seen m) → Needless (formula l.over.step l.over.size.width l.over.size.height) p → Needless (formula m.over.step m.over.size.width m.over.size.height) p
 needless_kept o model count l m p k n =
     subst (λ (z : Size). Needless (formula m.over.step z.width z.height) p) k.size (subst (λ (s : Step). Needless (formula s l.over.size.width l.over.size.height) p) k.step n)
 

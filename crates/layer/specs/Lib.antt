@@ -4,10 +4,13 @@ pub mod Aims
 pub mod Laid
 pub mod Cuts
 pub mod Standing
+pub mod Layered
 pub mod Layers
+pub mod Seen
 pub mod Told
 pub mod Asked
 pub mod Laws
 pub mod Placing
+pub mod Upright
 pub mod Bounding
 pub mod Stepping

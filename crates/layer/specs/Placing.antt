@@ -13,9 +13,9 @@ use Rattle.picture.specs.Images.{Image, Model}
 use Rattle.picture.specs.Prepare.{up}
 use Rattle.picture.specs.Steps.{Formula, black, white, copied, mixed, fitting, formula, kernel, width_of, height_of}
 use Rattle.layer.specs.declared.aim.Lens.{Lens}
-use Rattle.layer.specs.declared.layer.Layer.{Layer}
+use Rattle.layer.specs.Layered.{Layered}
 use Rattle.layer.specs.Aims.{Few, Inside, Mixed}
-use Rattle.layer.specs.Layers.{Kept, model_of, raised}
+use Rattle.layer.specs.Layers.{Kept, laid_over, model_of, raised}
 use Rattle.layer.specs.Standing.{Stands}
 
 module _ {K : Type 0} (b : Image K) (s : Step) (z : Size) where
@@ -78,17 +78,17 @@ raised_add : (n k c : ℕ) → raised n (raised k c) ≡ raised (k + n) c
 raised_add zero k c = ap (λ z. raised z c) (sym (add-zero k))
 raised_add (suc n) k c = ap up (raised_add n k c) ∙ ap (λ z. raised z c) (sym (add-suc k n))
 
-module _ {P K S : Type 0} {g : _} {h : _} (o : Ops K S) (model : P → Model K) (count : P → ℕ) where
-  pub kept-none : (l m : Layer P K S g h) → l.below ≡ m.below → l.over.step ≡ m.over.step → l.over.size ≡ m.over.size → l.count ≡ m.count → Kept o model count l m
+module _ {P K S : Type 0} (o : Ops K S) (model : P → Model K) (count : P → ℕ) where
+  pub kept-none : (l m : Layered P) → l.below ≡ m.below → l.over.step ≡ m.over.step → l.over.size ≡ m.over.size → l.count ≡ m.count → Kept o model count l m
   kept-none l m b s z c = record { shows = ap model b; step = s; size = z; count = c; times = 0; asked = ap count (sym b) }
 
-  pub kept_one : (l m : Layer P K S g h) → model m.below ≡ model l.below → count m.below ≡ up (count l.below) → l.over.step ≡ m.over.step → l.over.size ≡ m.over.size → l.count ≡ m.count → Kept o model count l m
+  pub kept_one : (l m : Layered P) → model m.below ≡ model l.below → count m.below ≡ up (count l.below) → l.over.step ≡ m.over.step → l.over.size ≡ m.over.size → l.count ≡ m.count → Kept o model count l m
   kept_one l m e a s z c = record { shows = sym e; step = s; size = z; count = c; times = 1; asked = a }
 
-  pub kept_times : (l m : Layer P K S g h) → model m.below ≡ model l.below → ((n : ℕ) × (count m.below ≡ raised n (count l.below))) → l.over.step ≡ m.over.step → l.over.size ≡ m.over.size → l.count ≡ m.count → Kept o model count l m
+  pub kept_times : (l m : Layered P) → model m.below ≡ model l.below → ((n : ℕ) × (count m.below ≡ raised n (count l.below))) → l.over.step ≡ m.over.step → l.over.size ≡ m.over.size → l.count ≡ m.count → Kept o model count l m
   kept_times l m e a s z c = record { shows = sym e; step = s; size = z; count = c; times = a.0; asked = a.1 }
 
-  pub kept_follows : (l m n : Layer P K S g h) → Kept o model count l m → Kept o model count m n → Kept o model count l n
+  pub kept_follows : (l m n : Layered P) → Kept o model count l m → Kept o model count m n → Kept o model count l n
   kept_follows l m n a b = record {
     shows = a.shows ∙ b.shows;
     step = a.step ∙ b.step;
@@ -98,5 +98,8 @@ module _ {P K S : Type 0} {g : _} {h : _} (o : Ops K S) (model : P → Model K) 
     asked = b.asked ∙ ap (raised b.times) a.asked ∙ raised_add b.times a.times (count l.below);
   }
 
-  pub kept_shows : (l m : Layer P K S g h) → Kept o model count l m → model_of o model l ≡ model_of o model m
-  kept_shows l m k = ap (λ s. layered o s (model l.below)) k.step ∙ ap (layered o m.over.step) k.shows
+  pub kept_shows : (l m : Layered P) → Kept o model count l m → model_of o model l ≡ model_of o model m
+  kept_shows l m k = ap (λ s. laid_over o s (model l.below)) k.step ∙ ap (laid_over o m.over.step) k.shows
+
+  pub kept_layers : (l m : Layered P) → Kept o model count l m → layered o l.over.step (model l.below) ≡ layered o m.over.step (model m.below)
+  kept_layers l m k = ap (λ s. layered o s (model l.below)) k.step ∙ ap (layered o m.over.step) k.shows

@@ -3,7 +3,7 @@ ghost use Rattle.picture.specs.Limits.{largest};
 ghost use Rattle.layer.specs.Cuts.{Cuts, Halves, Smaller, Within};
 
 use crate::cut::Cut;
-use crate::layer::ROOM;
+use crate::drawer::ROOM;
 use crate::over::Over;
 use picture::{Rect, Step};
 

@@ -73,6 +73,8 @@ fn lay_row<D: Draw>(draw: &D, codes: &[u64], j: u32, row: &mut [u64])
 }
 
 /// Writes a part into its places of the rectangle's buffer.
+// Inlined: behind a call, what draws would be read from memory again for each place.
+#[inline(always)]
 pub(crate) fn lay<D: Draw>(draw: &D, codes: &[u64], piece: Piece, buffer: &mut [u64])
     requires can { (i j : ℕ) → i < piece.part.width → j < piece.part.height → D.can draw.now codes.now i j }
     requires room { length buffer.old ≡ area piece.whole }

@@ -7,6 +7,7 @@ mod aims;
 mod ask;
 mod cut;
 mod cuts;
+mod drawer;
 mod draws;
 mod laws;
 mod layer;

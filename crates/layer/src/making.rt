@@ -1,8 +1,11 @@
 ghost use Rattle.std.specs.Prelude.{◌≡◌, true, ◌&&◌, nat_le};
+ghost use Rattle.picture.specs.Compose.{layered};
 ghost use Rattle.picture.specs.Steps.{allowed, fitting, height_of, width_of};
-ghost use Rattle.layer.specs.Layers.{Made};
+ghost use Rattle.layer.specs.Layers.{Made, model_of};
+ghost use Rattle.layer.specs.Standing.{Stands};
 
-use crate::layer::{Layer, ROOM};
+use crate::drawer::{Drawer, ROOM};
+use crate::layer::Layer;
 use crate::over::Over;
 use picture::{LIMIT, Picture, Refusal, Refused, Size, Step};
 use pixel::Kind;
@@ -105,17 +108,21 @@ impl<P: Picture> Layer<P> {
             });
         }
         Ok(Layer {
-            below,
-            over: Over { step, size },
-            count: 0,
-            scratch: [0; ROOM],
+            drawer: Drawer {
+                below,
+                over: Over { step, size },
+                count: 0,
+                scratch: [0; ROOM],
+            },
         })
     }
 
-    /// The picture below.
+    /// The picture below, over which the step stands.
     pub fn below(&self) -> &P
-        ensures { result.now ≡ self.now.below }
+        ensures is { result.now ≡ self.now.below }
+        ensures stands { Stands (P.model self.now.below).shown self.now.over.step self.now.over.size }
+        ensures shows { model_of P.Pixel.ops P.model self.now ≡ layered P.Pixel.ops self.now.over.step (P.model self.now.below) }
     {
-        &self.below
+        &self.drawer.below
     }
 }

@@ -1,16 +1,17 @@
 ghost use Rattle.std.specs.Prelude.{◌≡◌, ℕ, ◌-◌, ◌<◌, ◌≤◌, List, length, Ok, Err, Some};
 ghost use Rattle.picture.specs.Compose.{taken};
-ghost use Rattle.picture.specs.Prepare.{Shown, area, coded, first_in, nth};
+ghost use Rattle.picture.specs.Prepare.{Shown, area, coded, first_in, nth, up};
 ghost use Rattle.picture.specs.Steps.{Formula, formula};
 ghost use Rattle.layer.specs.Aims.{Fair, Inside, Mixed, Needless};
 ghost use Rattle.layer.specs.Laid.{Laid, Shows};
-ghost use Rattle.layer.specs.Layers.{Kept, located, model_of, raised};
+ghost use Rattle.layer.specs.Layers.{Kept, located, raised};
+ghost use Rattle.layer.specs.Seen.{layered_of, seen};
 ghost use Rattle.layer.specs.Told.{Told};
 
 use crate::aim::{Aim, Lens};
 use crate::ask::ask;
+use crate::drawer::Drawer;
 use crate::draws::{Draw, Plain, lay};
-use crate::layer::Layer;
 use crate::masks::of_mask;
 use crate::mix::Blended;
 use crate::piece::Piece;
@@ -21,6 +22,7 @@ use pixel::Kind;
 use std::marker::PhantomData;
 
 /// Draws a part from a region below that is prepared at once.
+#[inline(always)]
 fn draw_part<P: Picture, D: Draw>(
     below: &mut P,
     at: Rect,
@@ -37,6 +39,7 @@ fn draw_part<P: Picture, D: Draw>(
     ensures told { area at ≤ length codes.old → Told result (first_in (nth (P.model below.old).shown at) (area at)) }
     ensures keeps { P.model below.new ≡ P.model below.old }
     ensures counts { (n : ℕ) × (P.count below.new ≡ raised n (P.count below.old)) }
+    ensures once { area at ≤ length codes.old → P.count below.new ≡ up (P.count below.old) }
 {
     if at.area() > codes.len() {
         return Err(Undrawn::Uncut);
@@ -46,8 +49,9 @@ fn draw_part<P: Picture, D: Draw>(
     Ok(())
 }
 
-impl<P: Picture> Layer<P> {
+impl<P: Picture> Drawer<P> {
     /// A part whose places are windows through this filter, from one prepare below.
+    #[inline(always)]
     fn blend_part<W: Weights>(
         &mut self,
         lens: Lens,
@@ -61,7 +65,8 @@ impl<P: Picture> Layer<P> {
         ensures laid { result ≡ Ok tt → Laid piece.whole piece.part.left piece.part.top piece.part.width piece.part.height (λ u v c. (φ : Formula) → Mixed lens (W.weighs filter.weights) filter.scale filter.offset (u - piece.part.left) (v - piece.part.top) φ → coded P.Pixel.ops (taken P.Pixel.ops (P.model self.old.below).shown.maxval (P.model self.old.below).shown.at φ) ≡ Some c) buffer.old buffer.new }
         ensures spared { (e : Undrawn) → result ≡ Err e → buffer.new ≡ buffer.old }
         ensures told { piece.part.width ≡ 1 → piece.part.height ≡ 1 → (φ : Formula) → Mixed lens (W.weighs filter.weights) filter.scale filter.offset 0 0 φ → Told result (located P.Pixel.ops (taken P.Pixel.ops (P.model self.old.below).shown.maxval (P.model self.old.below).shown.at φ)) }
-        ensures kept { Kept P.Pixel.ops P.model P.count self.old self.new }
+        ensures kept { Kept P.Pixel.ops P.model P.count (seen self.old) (seen self.new) }
+        ensures once { piece.part.width ≡ 1 → piece.part.height ≡ 1 → P.count self.new.below ≡ up (P.count self.old.below) }
     {
         let blended: Blended<P::Pixel, W> = Blended {
             lens,
@@ -80,15 +85,18 @@ impl<P: Picture> Layer<P> {
     }
 
     /// A part at once; where that part is a single place, nothing but a hole refuses it.
+    // Inlined, as is what draws for it: in `place` the loops over the one place fall away.
+    #[inline(always)]
     pub(crate) fn block(&mut self, piece: Piece, buffer: &mut [u64]) -> Result<(), Undrawn>
-        requires inside { Inside piece.whole (model_of P.Pixel.ops P.model self.old).shown.width (model_of P.Pixel.ops P.model self.old).shown.height }
+        requires inside { Inside piece.whole (layered_of P.Pixel.ops P.model self.old).shown.width (layered_of P.Pixel.ops P.model self.old).shown.height }
         requires room { length buffer.old ≡ area piece.whole }
-        ensures laid { result ≡ Ok tt → Shows P.Pixel.ops (model_of P.Pixel.ops P.model self.old).shown piece.whole piece.part buffer.old buffer.new }
+        ensures laid { result ≡ Ok tt → Shows P.Pixel.ops (layered_of P.Pixel.ops P.model self.old).shown piece.whole piece.part buffer.old buffer.new }
         ensures spared { (e : Undrawn) → result ≡ Err e → buffer.new ≡ buffer.old }
-        ensures told { piece.part.width ≡ 1 → piece.part.height ≡ 1 → Told result (located P.Pixel.ops ((model_of P.Pixel.ops P.model self.old).shown.at piece.part.left piece.part.top)) }
-        ensures kept { Kept P.Pixel.ops P.model P.count self.old self.new }
+        ensures told { piece.part.width ≡ 1 → piece.part.height ≡ 1 → Told result (located P.Pixel.ops ((layered_of P.Pixel.ops P.model self.old).shown.at piece.part.left piece.part.top)) }
+        ensures kept { Kept P.Pixel.ops P.model P.count (seen self.old) (seen self.new) }
         ensures drawn { Needless (formula self.old.over.step self.old.over.size.width self.old.over.size.height) piece.part → result ≡ Ok tt }
         ensures quiet { Needless (formula self.old.over.step self.old.over.size.width self.old.over.size.height) piece.part → P.count self.new.below ≡ P.count self.old.below }
+        ensures once { piece.part.width ≡ 1 → piece.part.height ≡ 1 → (Needless (formula self.old.over.step self.old.over.size.width self.old.over.size.height) piece.part → ⊥) → P.count self.new.below ≡ up (P.count self.old.below) }
     {
         let Some(aim) = self.over.aim(piece.part) else {
             return Err(Undrawn::Uncut);

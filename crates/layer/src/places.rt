@@ -1,19 +1,20 @@
 ghost use Rattle.std.specs.Prelude.{◌≡◌, ◌<◌};
-ghost use Rattle.layer.specs.Layers.{Kept, located, model_of};
+ghost use Rattle.layer.specs.Layers.{Kept, located};
+ghost use Rattle.layer.specs.Seen.{layered_of, seen};
 
-use crate::layer::Layer;
+use crate::drawer::Drawer;
 use crate::piece::Piece;
 use crate::undrawn::Undrawn;
 use picture::{Fault, Picture, Rect};
 use pixel::Kind;
 
-impl<P: Picture> Layer<P> {
+impl<P: Picture> Drawer<P> {
     /// The code of one place, or its fault.
     pub(crate) fn place(&mut self, u: u32, v: u32) -> Result<u64, Fault>
-        requires across { u < (model_of P.Pixel.ops P.model self.old).shown.width }
-        requires down { v < (model_of P.Pixel.ops P.model self.old).shown.height }
-        ensures answer { result ≡ located P.Pixel.ops ((model_of P.Pixel.ops P.model self.old).shown.at u v) }
-        ensures kept { Kept P.Pixel.ops P.model P.count self.old self.new }
+        requires across { u < (layered_of P.Pixel.ops P.model self.old).shown.width }
+        requires down { v < (layered_of P.Pixel.ops P.model self.old).shown.height }
+        ensures answer { result ≡ located P.Pixel.ops ((layered_of P.Pixel.ops P.model self.old).shown.at u v) }
+        ensures kept { Kept P.Pixel.ops P.model P.count (seen self.old) (seen self.new) }
     {
         let whole = Rect {
             left: u,

@@ -3,20 +3,21 @@ ghost use Rattle.picture.specs.Prepare.{area};
 ghost use Rattle.picture.specs.Steps.{formula};
 ghost use Rattle.layer.specs.Aims.{Inside, Needless};
 ghost use Rattle.layer.specs.Laid.{Shows};
-ghost use Rattle.layer.specs.Layers.{Kept, model_of};
+ghost use Rattle.layer.specs.Layers.{Kept};
+ghost use Rattle.layer.specs.Seen.{layered_of, seen};
 
-use crate::layer::Layer;
+use crate::drawer::Drawer;
 use crate::piece::Piece;
 use picture::{Fault, Picture, Rows};
 use pixel::Kind;
 
-impl<P: Picture> Layer<P> {
+impl<P: Picture> Drawer<P> {
     /// A part, place by place, up to a hole.
     fn exact(&mut self, piece: Piece, buffer: &mut [u64]) -> Result<(), Fault>
-        requires inside { Inside piece.whole (model_of P.Pixel.ops P.model self.old).shown.width (model_of P.Pixel.ops P.model self.old).shown.height }
+        requires inside { Inside piece.whole (layered_of P.Pixel.ops P.model self.old).shown.width (layered_of P.Pixel.ops P.model self.old).shown.height }
         requires room { length buffer.old ≡ area piece.whole }
-        ensures laid { result ≡ Ok tt → Shows P.Pixel.ops (model_of P.Pixel.ops P.model self.old).shown piece.whole piece.part buffer.old buffer.new }
-        ensures kept { Kept P.Pixel.ops P.model P.count self.old self.new }
+        ensures laid { result ≡ Ok tt → Shows P.Pixel.ops (layered_of P.Pixel.ops P.model self.old).shown piece.whole piece.part buffer.old buffer.new }
+        ensures kept { Kept P.Pixel.ops P.model P.count (seen self.old) (seen self.new) }
     {
         let wide = piece.part.width as usize;
         // by row and slice, since behind `chunks_mut` a proof knows nothing of the elements
@@ -30,10 +31,10 @@ impl<P: Picture> Layer<P> {
 
     /// A part, cut until what a piece needs has room, up to a hole.
     pub(crate) fn tile(&mut self, piece: Piece, buffer: &mut [u64]) -> Result<(), Fault>
-        requires inside { Inside piece.whole (model_of P.Pixel.ops P.model self.old).shown.width (model_of P.Pixel.ops P.model self.old).shown.height }
+        requires inside { Inside piece.whole (layered_of P.Pixel.ops P.model self.old).shown.width (layered_of P.Pixel.ops P.model self.old).shown.height }
         requires room { length buffer.old ≡ area piece.whole }
-        ensures laid { result ≡ Ok tt → Shows P.Pixel.ops (model_of P.Pixel.ops P.model self.old).shown piece.whole piece.part buffer.old buffer.new }
-        ensures kept { Kept P.Pixel.ops P.model P.count self.old self.new }
+        ensures laid { result ≡ Ok tt → Shows P.Pixel.ops (layered_of P.Pixel.ops P.model self.old).shown piece.whole piece.part buffer.old buffer.new }
+        ensures kept { Kept P.Pixel.ops P.model P.count (seen self.old) (seen self.new) }
         ensures drawn { Needless (formula self.old.over.step self.old.over.size.width self.old.over.size.height) piece.part → result ≡ Ok tt }
         ensures quiet { Needless (formula self.old.over.step self.old.over.size.width self.old.over.size.height) piece.part → P.count self.new.below ≡ P.count self.old.below }
     {

@@ -1,5 +1,5 @@
 -- What a call answers: done, or refused with a number and the values that go with it.
-use Rattle.std.specs.Prelude.{ℕ, List, [], ◌∷◌, Ok, Err, Result}
+use Rattle.std.specs.Prelude.{ℕ, List, [], ◌∷◌, Ok, Err, Result, codes}
 use Rattle.picture.specs.declared.fault.Cause.{Cause}
 use Rattle.picture.specs.declared.fault.Cause.TheVariants.{Missing, Unread, Above, NoPixel}
 use Rattle.picture.specs.declared.fault.Fault.{Fault}
@@ -15,6 +15,13 @@ cause_number Missing = 1
 cause_number Unread = 2
 cause_number Above = 3
 cause_number NoPixel = 4
+
+-- what a cause is called
+abbrev pub cause_words : Cause → List ℕ
+cause_words Missing = codes "missing byte"
+cause_words Unread = codes "unread byte"
+cause_words Above = codes "sample above maxval"
+cause_words NoPixel = codes "no pixel"
 
 -- cause, source number, column and row
 abbrev pub fault_values : Fault → List ℕ

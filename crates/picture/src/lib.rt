@@ -20,3 +20,4 @@ pub use rect::Rect;
 pub use rows::{Rows, serve};
 pub use size::Size;
 pub use step::{Axis, Ground, Mask, Step, Turn};
+pub use words::cause_name;

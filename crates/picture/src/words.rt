@@ -1,15 +1,25 @@
+ghost use Rattle.std.specs.Prelude.{◌≡◌};
+ghost use Rattle.picture.specs.Refusals.{cause_words};
+
 use crate::fault::{Cause, Fault, Refusal};
 use std::error::Error;
 use std::fmt;
 
+/// What a cause is called.
+pub fn cause_name(cause: Cause) -> &'static str
+    ensures { result.now ≡ cause_words cause }
+{
+    match cause {
+        Cause::Missing => "missing byte",
+        Cause::Unread => "unread byte",
+        Cause::Above => "sample above maxval",
+        Cause::NoPixel => "no pixel",
+    }
+}
+
 impl fmt::Display for Cause {
     fn fmt<W: fmt::Write>(&self, f: &mut fmt::Formatter<W>) -> fmt::Result {
-        f.write_str(match self {
-            Cause::Missing => "missing byte",
-            Cause::Unread => "unread byte",
-            Cause::Above => "sample above maxval",
-            Cause::NoPixel => "no pixel",
-        })
+        f.write_str(cause_name(*self))
     }
 }
 

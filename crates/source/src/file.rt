@@ -55,10 +55,16 @@ fn read_pixels<S: Store>(store: &S, place: u64, step: usize, count: usize, block
     requires room { count * step ≤ length block.old }
     ensures { Loaded (capped (S.at store.now)) place step count block.new result.pixels result.lack }
 {
-    let (bytes, lack) = read_some(store, place, &mut block[..count * step]);
-    Load {
-        pixels: bytes / step,
-        lack: lack.map(cause_of),
+    // A match, since nothing is left to divide where all bytes are there.
+    match read_some(store, place, &mut block[..count * step]) {
+        (_, None) => Load {
+            pixels: count,
+            lack: None,
+        },
+        (bytes, Some(lack)) => Load {
+            pixels: bytes / step,
+            lack: Some(cause_of(lack)),
+        },
     }
 }
 
@@ -119,10 +125,10 @@ impl<S: Store, K: Kind> Rows for FileSource<S, K> {
 
     fn row(&mut self, left: u32, row: u32, out: &mut [u64]) -> Result<(), Fault> {
         // By index: `chunks_mut` was tried, and of `out` a proof then knows no more than its length.
-        for i in 0..out.len().div_ceil(RUN) {
-            let from = i * RUN;
-            let end = out.len().min(from + RUN);
-            self.run(left + from as u32, row, &mut out[from..end])?;
+        // `step_by`, and the length of what is left: by a run's number and its end, prepares of single places took up to half as many instructions again.
+        for from in (0..out.len()).step_by(RUN) {
+            let n = (out.len() - from).min(RUN);
+            self.run(left + from as u32, row, &mut out[from..from + n])?;
         }
         Ok(())
     }

@@ -4,4 +4,5 @@ use Rattle.source.proofs.samples.decode.Given as goal
 
 abbrev pub invariant-loop-k : goal.invariant-loop-k
 invariant-loop-k g l =
-    (j : ℕ) → j < l.k → code_of g.K.Kind.ops (wide l.maxval) l.maxval (from l.bytes (j * (g.K.Kind.ops.depth * sample_bytes (wide l.maxval)))) ≡ Some (get_or l.out j 0)
+    (l.at ≡ l.k * l.step)
+    × ((j : ℕ) → j < l.k → code_of g.K.Kind.ops (wide l.maxval) l.maxval (from l.bytes (j * (g.K.Kind.ops.depth * sample_bytes (wide l.maxval)))) ≡ Some (get_or l.out j 0))

@@ -1,5 +1,0 @@
-use Rattle.std.proofs.Common.{◌+◌}
-use Rattle.layer.proofs.layer.Layer.+tile.Given as goal
-
-abbrev pub decreases-tile : goal.decreases-tile
-decreases-tile g l = l.piece.part.width + l.piece.part.height
